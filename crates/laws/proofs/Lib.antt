@@ -1,0 +1,11 @@
+mod Effects
+mod Listing
+mod After
+mod Forcing
+mod Layers
+mod Reached
+mod Clocks
+mod Refusals
+mod Pile
+mod PileForce
+mod PileWorked
