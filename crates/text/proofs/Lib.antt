@@ -1,0 +1,8 @@
+mod Steps
+mod Splits
+mod Pieces
+mod Forms
+mod Lines
+mod Calls
+mod Passing
+mod Numbers
