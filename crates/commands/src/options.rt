@@ -84,7 +84,10 @@ fn set_limit(limits: Limits, limit: Limit, n: u32) -> Limits
     ensures { λ r. ⌜ r ≡ with-limit limits limit n ⌝ }
 {
     match limit {
-        Limit::Tables => Limits { tables: n, ..limits },
+        Limit::Tables => Limits {
+            tables: n,
+            ..limits
+        },
         Limit::Moves => Limits { moves: n, ..limits },
         Limit::Positions => Limits {
             positions: n,

@@ -25,7 +25,9 @@ use std::io::Write;
 
 // The largest limits that a server may be opened with.
 const MOST_TABLES: u32 = 1024;
+
 const MOST_MOVES: u32 = 1000000;
+
 const MOST_POSITIONS: u32 = 8192;
 
 const HELP: &str = "answer [--tables N] [--moves N] [--positions N] GAME [CALLS]
@@ -147,7 +149,11 @@ fn complain(rt: &LibcRuntime, words: &[String], fault: Fault) -> Result<(), AnyE
 }
 
 fn word_at(words: &[String], i: usize) -> &str {
-    if i < words.len() { words[i].as_str() } else { "" }
+    if i < words.len() {
+        words[i].as_str()
+    } else {
+        ""
+    }
 }
 
 // Does what the words of the command line ask for. Words that are refused end in an error, of which `main` makes status 1.
@@ -160,7 +166,13 @@ pub fn answer(rt: &LibcRuntime, words: &[String]) -> Result<(), AnyError>
             rt.println(HELP)?;
             Ok(())
         }
-        Ok(Request::Run { limits, game, calls }) => {
+        Ok(
+            Request::Run {
+                limits,
+                game,
+                calls,
+            },
+        ) => {
             check_limits(rt, limits)?;
             open_game(rt, word_at(words, game))?;
             match calls {

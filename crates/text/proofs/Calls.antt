@@ -1,42 +1,31 @@
 -- One call a line, and printed calls are read back.
 use mathlib.Core.Path.{_≡_, refl, sym, ap, subst, _∙_}
-use mathlib.Core.Bool.{Bool, true, false, _&&_, cond}
+use mathlib.Core.Bool.{true, false, cond}
 use mathlib.Core.List.{List, [], _∷_, _++_}
-use Prim.Native.Nat.{ℕ, _+_, _^_, _≤_, _<_}
+use Prim.Native.Nat.{ℕ, _^_, _<_}
 use native.Mathlib.Omega.{arith}
 use borrow.Author.Needs.{needs}
-use lib.Dec.{eqb, ltb}
-use lib.ListN.{length, getD}
+use lib.Dec.{eqb}
+use lib.ListN.{getD}
 use Rattle.std.proofs.shelf.Decimals.{decimal-some, digits-decimal, value-decimal}
-use Rattle.std.proofs.shelf.Lists.{append-cancel-left, append-nil}
+use Rattle.std.proofs.shelf.Lists.{append-nil}
 use Rattle.std.proofs.shelf.Numerals.{Numerals, numerals-by-fold}
 use Rattle.std.proofs.shelf.Ways.{tells}
-use Rattle.std.specs.Written.{decimal}
 use Rattle.std.specs.shelf.Lists.{All}
 use Rattle.std.specs.declared.result.Result.{Result}
 use Rattle.std.specs.declared.result.Result.the-variants.{Ok, Err}
 use Rattle.rules.specs.Bounds.{readable}
-use Rattle.rules.specs.declared.Move.{Move}
 use Rattle.rules.specs.declared.Call.{Call}
 use Rattle.rules.specs.declared.Call.the-variants.{Sit, Play, Ticks, See, May, Back, CanForce}
 use Rattle.text.specs.Grammar.{Piece, word, number, pieces, blank, digit, all, value-from, Spells, Written, end, piece, Is-line, Reads, printed-piece, printed-pieces, printed}
 use Rattle.text.specs.Reader.{Form, done, the, ask, sit-form, play-form, ticks-form, see-form, may-form, back-form, force-form, call-of}
 use Rattle.text.specs.Theorems.{One-call-a-line, Printed-reads-back}
 use Rattle.text.proofs.Splits.{starts, split-unique}
-use Rattle.text.proofs.Pieces.{Want, the-word, any-number, Spelled, Solid, spelled-solid}
+use Rattle.text.proofs.Pieces.{Want, the-word, any-number, Solid, spelled-solid, spelled-same, ends-before}
 use Rattle.text.proofs.Forms.{Begins, Says, Proper, says-stops}
 use Rattle.text.proofs.Lines.{unwrite, form-of, proper, line-says, reads}
 
--- a word or number is written in a list in one way
-spelled-same :
-    (w : Want) (v v′ : ℕ) (ds ds′ rest rest′ : List ℕ) → Spelled w v ds → Spelled w v′ ds′ → starts digit rest ≡ false → starts digit rest′ ≡ false →
-    ds ++ rest ≡ ds′ ++ rest′ → (v ≡ v′) × (rest ≡ rest′)
-spelled-same (the-word w) v v′ ds ds′ rest rest′ s s′ d d′ e =
-    (s .0 ∙ sym (s′ .0), append-cancel-left w rest rest′ (ap (λ xs. xs ++ rest) (sym (s .1)) ∙ e ∙ ap (λ xs. xs ++ rest′) (s′ .1)))
-spelled-same any-number v v′ ds ds′ rest rest′ s s′ d d′ e =
-    let same = split-unique digit ds ds′ rest rest′ (s .1) (s′ .1) d d′ e in
-    (sym (s .2) ∙ ap (value-from 0) (same .0) ∙ s′ .2, same .1)
-
+-- what begins so goes on in one way
 begins-same :
     (w : Want) (least : ℕ) (L M : ℕ → List ℕ → Type 0) (xs : List ℕ) → Solid w → ((v : ℕ) (rest : List ℕ) → L v rest → starts digit rest ≡ false) →
     ((v : ℕ) (rest : List ℕ) → M v rest → starts digit rest ≡ false) → (h : Begins w least L xs) (k : Begins w least M xs) →
@@ -46,9 +35,9 @@ begins-same w least L M xs solid stops stops′ h k =
     (spelled-solid w solid (h .value) (h .ds) (h .rest) (h .spelled)) (spelled-solid w solid (k .value) (k .ds) (k .rest) (k .spelled))
     (sym (h .cut) ∙ k .cut) in
     spelled-same w (h .value) (k .value) (h .ds) (k .ds) (h .rest) (k .rest) (h .spelled) (k .spelled)
-    (stops (h .value) (h .rest) (h .then)) (stops′ (k .value) (k .rest) (k .then)) (same .1)
+    (ends-before w (h .rest) (stops (h .value) (h .rest) (h .then))) (ends-before w (k .rest) (stops′ (k .value) (k .rest) (k .then))) (same .1)
 
--- of one form
+-- no line of one form is the line of two calls
 says-same : (f : Form) → Proper f → (least : ℕ) (c d : Call) (xs : List ℕ) → Says f least c xs → Says f least d xs → c ≡ d
 says-same (done e) p least c d xs h k = sym (h .0) ∙ k .0
 says-same (the w f) p least c d xs h k =
@@ -67,6 +56,7 @@ form-by xs =
     (cond (eqb (getD xs 0 0) 112) play-form (cond (eqb (getD xs 0 0) 116) ticks-form
     (cond (eqb (getD xs 0 0) 109) may-form (cond (eqb (getD xs 0 0) 98) back-form force-form))))
 
+-- each call's first word tells its form
 first-word :
     (c : Call) →
     (w : List ℕ) × (ps : List Piece) × (pieces c ≡ word w ∷ ps) × ((xs : List ℕ) → starts blank (w ++ xs) ≡ false) × ((xs : List ℕ) → form-by (w ++ xs) ≡ form-of c)
@@ -89,6 +79,7 @@ begun c line h =
     let same : f .0 ++ u .2 ≡ u .1 ++ u .2 = ap (λ ds. ds ++ u .2) (sym (u .6)) in
     (u .0, f .0 ++ u .2, u .3 ∙ ap (λ xs. u .0 ++ xs) (sym same), u .5, f .3 (u .2), f .4 (u .2))
 
+-- no line is the line of two calls
 pub one-call : One-call-a-line
 one-call c d line h k =
     let b = begun c line h in
@@ -113,10 +104,12 @@ abbrev Printable : Piece → Type 0
 Printable (word w) = Unit {0}
 Printable (number n) = n < 4294967296
 
+-- a piece that is printed is so written
 printed-spells : (p : Piece) → Printable p → Spells p (printed-piece p)
 printed-spells (word w) h = refl
 printed-spells (number n) h = let l : n < 2 ^ 64 = omega arith in (decimal-some n l, digits-decimal own n l, value-decimal own n l, h)
 
+-- and so are several, with a blank between them
 printed-written : (ps : List Piece) → All Printable ps → Written 0 ps (printed-pieces ps)
 unfolding printed-pieces all
 printed-written [] h = end [] refl
@@ -125,6 +118,7 @@ printed-written (p ∷ []) h =
 printed-written (p ∷ q ∷ ps) h =
     piece [] (printed-piece p) (32 ∷ printed-pieces (q ∷ ps)) (omega arith) refl (printed-spells p (h .0)) (more-space (printed-written (q ∷ ps) (h .1)))
 
+-- the numbers of a readable call fit
 printable : (c : Call) → readable c ≡ true → All Printable (pieces c)
 unfolding pieces readable
 printable (Sit n) e = grind (arith, tells)
@@ -135,6 +129,7 @@ printable (May t) e = grind (arith, tells)
 printable (Back t n) e = grind (arith, tells)
 printable (CanForce t m k d) e = grind (arith, tells)
 
+-- a printed call is read back: whatever is read back is the call, since the line is no other's
 pub printed-back : Printed-reads-back
 unfolding printed
 printed-back c e = (line, by-answer (call-of (printed c)) (reads (printed c)))

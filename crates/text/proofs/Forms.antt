@@ -1,6 +1,6 @@
 -- A form of call, read: the call, or the longest front that some call of the form begins with.
 use mathlib.Core.Path.{_≡_, refl, sym, ap, subst, _∙_}
-use mathlib.Core.Bool.{Bool, true, false, cond}
+use mathlib.Core.Bool.{true, false}
 use mathlib.Core.List.{List, [], _∷_, _++_}
 use mathlib.Core.Logic.{_⊎_, inl, inr, ⊎-elim}
 use Prim.Native.Nat.{ℕ, _+_, _-_, _≤_, _<_, max}
@@ -15,7 +15,8 @@ use Rattle.rules.specs.declared.Call.{Call}
 use Rattle.text.specs.Grammar.{blank, digit, all}
 use Rattle.text.specs.Reader.{and-then, past, gap-at, letters-at, end-at, Form, done, the, ask, fit, better}
 use Rattle.text.proofs.Splits.{starts, starts-alike, take-alike, all-append, all-right, all-none, none-alike, front-within, split-unique, go-on}
-use Rattle.text.proofs.Pieces.{blank-not-digit, Gap, past-splits, Want, the-word, any-number, Spelled, Solid, spelled-solid, some-spelling, read-want, Got, Stopped, Want-read, want-read}
+use Rattle.text.proofs.Scans.{Gap, past-splits}
+use Rattle.text.proofs.Pieces.{ends-before, ends-alike, spelled-same, blank-not-digit, Want, the-word, any-number, Spelled, Solid, spelled-solid, some-spelling, read-want, Got, Stopped, Want-read, want-read}
 
 -- the longest front of bs that some call begins with, where L c is how the call c may be written; it ends at place n
 pub record Stuck (L : Call → List ℕ → Type 0) (bs : List ℕ) (i n : ℕ) : Type 0 where
@@ -26,6 +27,7 @@ pub record Stuck (L : Call → List ℕ → Type 0) (bs : List ℕ) (i n : ℕ) 
   pub live : (c : Call) × (rest : List ℕ) × L c (front ++ rest)
   pub dead : (c : Call) (xs : List ℕ) → take 1 xs ≡ take 1 left → L c (front ++ xs) → ⊥
 
+-- what an answer says of a line that is bs from place i on
 abbrev pub Good : (Call → List ℕ → Type 0) → List ℕ → ℕ → Result Call ℕ → Type 0
 Good L bs i (Ok c) = L c bs
 Good L bs i (Err n) = Stuck L bs i n
@@ -49,9 +51,11 @@ module _
     (some : (v : ℕ) → (c : Call) × (rest : List ℕ) × L v c rest)
     (least : ℕ) (few : least ≤ 1)
   where
+    -- the lines that are read here
     abbrev Lines : Call → List ℕ → Type 0
     Lines c xs = Begins w least (λ v rest. L v c rest) xs
 
+    -- there is not enough white space
     too-short :
         (bs : List ℕ) (i j : ℕ) (g : Gap bs i j) → length (g .gap) < least → Stuck Lines bs i j
     unfolding all
@@ -83,6 +87,7 @@ module _
           omega (arith, b .enough, ap length (same .0));
     }
 
+    -- the word or number is not read to its end
     piece-stuck :
         (bs : List ℕ) (i j n : ℕ) (g : Gap bs i j) → least ≤ length (g .gap) → Stopped w (g .left) j n → Stuck Lines bs i n
     piece-stuck bs i j n g enough s = record {
@@ -112,9 +117,10 @@ module _
           starts-alike blank (s .front ++ xs) (s .front ++ s .left) (take-alike (s .front) xs (s .left) a) ∙ sym (ap (starts blank) (s .cut)) ∙ g .ends in
           let same = split-unique blank (g .gap) (b .gap) (s .front ++ xs) (b .ds ++ b .rest) (g .white) (b .white) begins
           (spelled-solid w solid (b .value) (b .ds) (b .rest) (b .spelled)) (sym (append-assoc (g .gap) (s .front) xs) ∙ b .cut) in
-          s .dead xs a (b .value) (b .ds) (b .rest) (same .1) (b .spelled) (stops (b .value) c (b .rest) (b .then));
+          s .dead xs a (b .value) (b .ds) (b .rest) (same .1) (b .spelled) (ends-before w (b .rest) (stops (b .value) c (b .rest) (b .then)));
     }
 
+    -- it is, and the rest is read
     go-further :
         (bs : List ℕ) (i j v k : ℕ) (g : Gap bs i j) → least ≤ length (g .gap) → (p : Got w (g .left) j v k) (r : Result Call ℕ) → Good (L v) (p .left) k r →
         Good Lines bs i r
@@ -158,7 +164,8 @@ module _
               (spelled-solid w solid v (p .ds) (h .front ++ xs) (p .spelled))
               (spelled-solid w solid (b .value) (b .ds) (b .rest) (b .spelled)) (sym (regroup xs) ∙ b .cut) in
               let alike : take 1 (h .front ++ xs) ≡ take 1 (p .left) = take-alike (h .front) xs (h .left) a ∙ sym (ap (take 1) (h .cut)) in
-              let q = p .only (h .front ++ xs) alike (b .value) (b .ds) (b .rest) (same .1) (b .spelled) (stops (b .value) c (b .rest) (b .then)) in
+              let q = spelled-same w v (b .value) (p .ds) (b .ds) (h .front ++ xs) (b .rest) (p .spelled) (b .spelled) (ends-alike w (h .front ++ xs) (p .left) alike (p .ends))
+              (ends-before w (b .rest) (stops (b .value) c (b .rest) (b .then))) (same .1) in
               h .dead c xs a (subst (λ u. L u c (h .front ++ xs)) (sym (q .0)) (subst (λ ys. L (b .value) c ys) (sym (q .1)) (b .then)));
         }
 
@@ -167,6 +174,7 @@ module _
     want-at line i = and-then (gap-at least line i) (λ j. read-want w (drop j line) j)
 
     module _ (line : List ℕ) (next : ℕ → ℕ → Result Call ℕ) (good : (v j : ℕ) → j ≤ length line → Good (L v) (drop j line) j (next v j)) where
+      -- what follows the white space
       after-want :
           (i : ℕ) → i ≤ length line → (g : Gap (drop i line) i (past (drop i line) i)) → least ≤ length (g .gap) → (r : Result (ℕ × ℕ) ℕ) → Want-read w (g .left) (past (drop i line) i) r →
           Good Lines (drop i line) i (and-then r (λ n. next (n .0) (n .1)))
@@ -179,6 +187,7 @@ module _
           (subst (λ bs. Good (L (n .0)) bs (n .1) (next (n .0) (n .1))) (ap (λ k. drop k line) (p .place) ∙ on .1) (good (n .0) (n .1) (omega (arith, p .place, on .0))))
       after-want i h g enough (Err n) s = piece-stuck (drop i line) i (past (drop i line) i) n g enough s
 
+      -- white space, the word or number, and the rest
       pub then-good : (i : ℕ) → i ≤ length line → Good Lines (drop i line) i (and-then (want-at line i) (λ n. next (n .0) (n .1)))
       then-good i h =
           let bs : List ℕ = drop i line in
@@ -210,6 +219,7 @@ unfolding all
 white-stops [] xs h l = absurd (omega arith)
 white-stops (b ∷ gap) xs h l = blank-not-digit b (and-parts (blank b) (all blank gap) h .0)
 
+-- what is left after a piece begins with no digit
 pub says-stops : (f : Form) (c : Call) (rest : List ℕ) → Says f 1 c rest → starts digit rest ≡ false
 unfolding all
 says-stops (done d) c [] h = refl
@@ -217,6 +227,7 @@ says-stops (done d) c (b ∷ bs) h = blank-not-digit b (and-parts (blank b) (all
 says-stops (the w f) c rest h = ap (starts digit) (h .cut) ∙ white-stops (h .gap) (h .ds ++ h .rest) (h .white) (h .enough)
 says-stops (ask f) c rest h = ap (starts digit) (h .cut) ∙ white-stops (h .gap) (h .ds ++ h .rest) (h .white) (h .enough)
 
+-- there is always some way to go on
 some-begins :
     (w : Want) (L : ℕ → Call → List ℕ → Type 0) → ((v : ℕ) → (c : Call) × (rest : List ℕ) × L v c rest) →
     (c : Call) × (xs : List ℕ) × Begins w 1 (λ v rest. L v c rest) xs
@@ -246,6 +257,7 @@ some-call (done d) = (d, [], (refl, refl))
 some-call (the w f) = some-begins (the-word w) (λ v c rest. Says f 1 c rest) (λ v. some-call f)
 some-call (ask f) = some-begins any-number (λ v c rest. Says (f v) 1 c rest) (λ v. some-call (f v))
 
+-- the end of a line
 end-good : (d : Call) (least : ℕ) (line : List ℕ) (i : ℕ) → i ≤ length line → Good (Says (done d) least) (drop i line) i (end-at line i d)
 end-good d least line i h =
     let bs : List ℕ = drop i line in
@@ -268,6 +280,7 @@ end-good d least line i h =
           eqb-false (past bs i) (length line) e (omega (arith, g .place, ap length none-left));
     })
 
+-- a word read with the number 0, which is then let go, is a word read
 word-alone :
     (gap : Result ℕ ℕ) (letters : ℕ → Result ℕ ℕ) (next : ℕ → Result Call ℕ) →
     and-then (and-then gap (λ j. and-then (letters j) (λ k. Ok (0, k)))) (λ (n : ℕ × ℕ). next (n .1)) ≡ and-then (and-then gap letters) next
@@ -278,6 +291,7 @@ word-alone (Ok j) letters next = by-letters (letters j)
     by-letters (Err k) = refl
 word-alone (Err j) letters next = refl
 
+-- reading by a form is right
 pub fit-good :
     (f : Form) → Proper f → (least : ℕ) → least ≤ 1 → (line : List ℕ) (i : ℕ) → i ≤ length line → Good (Says f least) (drop i line) i (fit f least line i)
 fit-good (done d) p least few line i h = end-good d least line i h

@@ -1,5 +1,6 @@
 mod Steps
 mod Splits
+mod Scans
 mod Pieces
 mod Forms
 mod Lines

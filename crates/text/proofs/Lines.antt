@@ -1,23 +1,20 @@
 -- The lines of the grammar are those of the seven forms.
 use mathlib.Core.Path.{_≡_, refl, sym, ap, subst, _∙_}
-use mathlib.Core.Bool.{Bool, true, false}
+use mathlib.Core.Bool.{true}
 use mathlib.Core.List.{List, [], _∷_, _++_}
 use mathlib.Core.Logic.{_⊎_, inl, inr, ⊎-elim}
 use Prim.Native.Nat.{ℕ, zero, suc, _+_, _≤_, _<_}
 use native.Mathlib.Omega.{arith}
-use lib.ListN.{length, take, drop}
-use lib.Chars.{codes}
+use lib.ListN.{length, take}
 use Rattle.std.proofs.shelf.Lists.{length-append, append-assoc, append-nil, take-at}
 use Rattle.std.specs.shelf.Lists.{All}
 use Rattle.std.specs.declared.result.Result.{Result}
 use Rattle.std.specs.declared.result.Result.the-variants.{Ok, Err}
-use Rattle.rules.specs.declared.Move.{Move}
 use Rattle.rules.specs.declared.Call.{Call}
 use Rattle.rules.specs.declared.Call.the-variants.{Sit, Play, Ticks, See, May, Back, CanForce}
-use Rattle.text.specs.Grammar.{Piece, word, number, pieces, blank, digit, all, Spells, Written, end, piece, Is-line, Front, Reads}
+use Rattle.text.specs.Grammar.{Piece, word, number, pieces, blank, all, Spells, Written, end, piece, Is-line, Reads}
 use Rattle.text.specs.Reader.{Form, done, the, ask, fit, sit-form, play-form, ticks-form, see-form, may-form, back-form, force-form, better, best-of, call-of}
-use Rattle.text.proofs.Pieces.{Want, the-word, any-number, Spelled}
-use Rattle.text.proofs.Forms.{Stuck, Good, Begins, Says, Proper, fit-good, better-good}
+use Rattle.text.proofs.Forms.{Good, Says, Proper, fit-good, better-good}
 
 -- whatever call a form comes to has the pieces before, and those of the form
 abbrev pub Names : Form → List Piece → Type 0
@@ -25,6 +22,7 @@ Names (done c) before = pieces c ≡ before
 Names (the w f) before = Names f (before ++ (word w ∷ []))
 Names (ask f) before = (n : ℕ) → Names (f n) (before ++ (number n ∷ []))
 
+-- a line of the form is the pieces of its call, so written
 says-written :
     (f : Form) (before : List Piece) → Names f before → (least : ℕ) (c : Call) (xs : List ℕ) → Says f least c xs →
     (after : List Piece) × (pieces c ≡ before ++ after) × Written least after xs
@@ -49,6 +47,7 @@ Leads (done d) ps c = (ps ≡ []) × (d ≡ c)
 Leads (the w f) ps c = (qs : List Piece) × (ps ≡ word w ∷ qs) × Leads f qs c
 Leads (ask f) ps c = (n : ℕ) × (qs : List Piece) × (ps ≡ number n ∷ qs) × Leads (f n) qs c
 
+-- what a line that is so written begins with
 unwrite-end : {least : ℕ} {xs : List ℕ} → Written least [] xs → all blank xs ≡ true
 unwrite-end (end xs h) = h
 
@@ -57,6 +56,7 @@ pub unwrite :
     (gap : List ℕ) × (ds : List ℕ) × (rest : List ℕ) × (xs ≡ gap ++ (ds ++ rest)) × (least ≤ length gap) × (all blank gap ≡ true) × Spells p ds × Written 1 ps rest
 unwrite (piece gap ds rest enough white spelled more) = (gap, ds, rest, refl, enough, white, spelled, more)
 
+-- and pieces that the form leads along, so written, are a line of the form
 written-says : (f : Form) (ps : List Piece) (c : Call) → Leads f ps c → (least : ℕ) (xs : List ℕ) → Written least ps xs → Says f least c xs
 written-says (done d) ps c l least xs h = (l .1, unwrite-end (subst (λ qs. Written least qs xs) (l .0) h))
 written-says (the w f) ps c l least xs h =
@@ -96,6 +96,7 @@ form-of (May t) = may-form
 form-of (Back t n) = back-form
 form-of (CanForce t m k d) = force-form
 
+-- each form leads to its calls by their pieces
 leads : (c : Call) → Leads (form-of c) (pieces c) c
 unfolding pieces
 leads (Sit n) = (_, refl, (n, _, refl, (refl, refl)))
@@ -106,14 +107,17 @@ leads (May t) = (_, refl, (t, _, refl, (refl, refl)))
 leads (Back t n) = (_, refl, (t, _, refl, (n, _, refl, (refl, refl))))
 leads (CanForce t m k d) = (_, refl, (_, refl, (t, _, refl, (m, _, refl, (k, _, refl, (d, _, refl, (refl, refl)))))))
 
+-- a call's line is a line of its form
 pub line-says : (c : Call) (line : List ℕ) → Is-line c line → Says (form-of c) 0 c line
 line-says c line h = written-says (form-of c) (pieces c) c (leads c) 0 line h
 
+-- and the other way round
 says-line : (f : Form) → Names f [] → (c : Call) (line : List ℕ) → Says f 0 c line → Is-line c line
 says-line f names c line h =
     let t = says-written f [] names 0 c line h in
     subst (λ ps. Written 0 ps line) (sym (t .1)) (t .2)
 
+-- no word of the seven forms begins with white space
 pub proper : (c : Call) → Proper (form-of c)
 proper (Sit n) = (λ xs. refl, λ v. tt)
 proper (Play t m v) = (λ xs. refl, λ t m r x y. tt)
@@ -131,6 +135,7 @@ abbrev Any : (Call → List ℕ → Type 0) → List Form → Call → List ℕ 
 Any L [] = L
 Any L (f ∷ fs) = Any (λ c xs. L c xs ⊎ lines f c xs) fs
 
+-- the best of several answers is right for all their forms
 best-good :
     (L : Call → List ℕ → Type 0) (r : Result Call ℕ) (fs : List Form) (line : List ℕ) → All Proper fs → Good L line 0 r →
     Good (Any L fs) line 0 (best-of r fs line)
@@ -145,6 +150,7 @@ later-forms = play-form ∷ ticks-form ∷ see-form ∷ may-form ∷ back-form �
 abbrev Said : Call → List ℕ → Type 0
 Said = Any (lines sit-form) later-forms
 
+-- the lines of the seven forms are the lines of the grammar
 line-said : (c : Call) (xs : List ℕ) → Is-line c xs → Said c xs
 line-said (Sit n) xs h = inl (inl (inl (inl (inl (inl (line-says (Sit n) xs h))))))
 line-said (Play t m v) xs h = inl (inl (inl (inl (inl (inr (line-says (Play t m v) xs h))))))
@@ -161,6 +167,7 @@ said-line c xs =
     (says-line ticks-form (λ n. refl) c xs)) (says-line see-form (λ t. refl) c xs)) (says-line may-form (λ t. refl) c xs))
     (says-line back-form (λ t n. refl) c xs)) (says-line force-form (λ t m k d. refl) c xs)
 
+-- the same lines, said otherwise
 good-like :
     (L M : Call → List ℕ → Type 0) → ((c : Call) (xs : List ℕ) → L c xs → M c xs) → ((c : Call) (xs : List ℕ) → M c xs → L c xs) →
     (bs : List ℕ) (i : ℕ) (r : Result Call ℕ) → Good L bs i r → Good M bs i r
@@ -174,6 +181,7 @@ good-like L M to from bs i (Err n) h = record {
   dead = λ c xs a t. h .dead c xs a (from c (h .front ++ xs) t);
 }
 
+-- the reader is right, in the terms of the cut
 call-good : (line : List ℕ) → Good Is-line line 0 (call-of line)
 unfolding call-of
 call-good line =
@@ -194,6 +202,7 @@ longer-front (x ∷ front) left (suc m) l u =
     let r = longer-front front left m (omega arith) (omega arith) in
     (r .0, ap (λ xs. x ∷ xs) (r .1), r .2)
 
+-- and in the terms of the grammar
 good-reads : (line : List ℕ) (r : Result Call ℕ) → Good Is-line line 0 r → Reads line r
 good-reads line (Ok c) h = h
 good-reads line (Err n) h =
@@ -209,5 +218,6 @@ good-reads line (Err n) h =
           h .dead (t .0) (r .0 ++ t .1) (r .2 (t .1)) (subst (λ xs. Is-line (t .0) xs) here (t .2)),
     )
 
+-- reading a line answers what the grammar says
 pub reads : (line : List ℕ) → Reads line (call-of line)
 reads line = good-reads line (call-of line) (call-good line)

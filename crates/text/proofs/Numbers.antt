@@ -14,7 +14,7 @@ use Rattle.std.proofs.shelf.Tests.{cases-bool, cases-lt, cond-true, cond-false,
 use Rattle.text.specs.Grammar.{digit, all, value-from, number-of}
 use Rattle.text.specs.Reader.{digits-at}
 use Rattle.text.proofs.Splits.{all-right, all-none, value-append, value-grows}
-use Rattle.text.proofs.Pieces.{Some-digits, Too-large, Digits, digits-splits}
+use Rattle.text.proofs.Scans.{Some-digits, Too-large, Digits, digits-splits}
 
 pub digits-said : (bs : List ℕ) (r : Result (ℕ × ℕ) ℕ) → r ≡ digits-at bs 0 0 → Digits bs 0 0 r
 digits-said bs r e = subst (Digits bs 0 0) (sym e) (digits-splits bs 0 0 (omega arith))
@@ -45,12 +45,12 @@ pub number-cut : (bs : List ℕ) (v j : ℕ) → Some-digits bs 0 0 v j → j < 
 number-cut bs v j h l =
     let n : length bs ≡ length (h .ds) + length (h .left) = ap length (h .cut) ∙ length-append (h .ds) (h .left) in
     let other : all digit bs ≡ false =
-        elim (cases-bool (all digit bs)) [
-          | inl e ↦
-              let none : h .left ≡ [] = all-none digit (h .left) (all-right digit (h .ds) (h .left) (sym (ap (all digit) (h .cut)) ∙ e)) (h .ends) in
-              absurd (omega (arith, h .place, ap length none))
-          | inr e ↦ e
-        ]
+    elim (cases-bool (all digit bs)) [
+      | inl e ↦
+          let none : h .left ≡ [] = all-none digit (h .left) (all-right digit (h .ds) (h .left) (sym (ap (all digit) (h .cut)) ∙ e)) (h .ends) in
+          absurd (omega (arith, h .place, ap length none))
+      | inr e ↦ e
+    ]
     in
     fails bs (and-right (ltb 0 (length bs)) _ (and-left (all digit bs) (ltb (value-from 0 bs) 4294967296) other))
 
@@ -66,7 +66,7 @@ pub number-large : (bs : List ℕ) (j : ℕ) → Too-large bs 0 0 j → None ≡
 number-large bs j h =
     let front : List ℕ = h .front ++ (h .one ∷ []) in
     let value : value-from 0 bs ≡ value-from (value-from 0 front) (h .left) =
-        ap (value-from 0) (h .cut ∙ sym (append-assoc (h .front) (h .one ∷ []) (h .left))) ∙ value-append 0 front (h .left)
+    ap (value-from 0) (h .cut ∙ sym (append-assoc (h .front) (h .one ∷ []) (h .left))) ∙ value-append 0 front (h .left)
     in
     let large : 4294967296 ≤ value-from 0 bs = omega (arith, h .large, value-grows (value-from 0 front) (h .left)) in
     fails bs (and-right (ltb 0 (length bs)) _ (and-right (all digit bs) _ (le-ltb (value-from 0 bs) 4294967296 large)))

@@ -1,202 +1,67 @@
--- White space, a word and a number: how each is read, and where reading stops.
+-- A word or a number: how it is read, and where reading stops.
 use mathlib.Core.Path.{_≡_, refl, sym, ap, subst, _∙_}
-use mathlib.Core.Bool.{Bool, true, false, not, _&&_, cond}
+use mathlib.Core.Bool.{true, false, not, cond}
 use mathlib.Core.List.{List, [], _∷_, _++_}
-use Prim.Native.Nat.{ℕ, _+_, _*_, _-_, _≤_, _<_}
+use Prim.Native.Nat.{ℕ, _+_, _≤_, _<_}
 use native.Mathlib.Omega.{arith}
-use lib.Dec.{eqb, ltb, leb}
-use lib.ListN.{length, take, drop}
-use Rattle.std.proofs.shelf.Lists.{length-append, append-assoc, append-cancel-left, append-nil, nil-from-length}
-use Rattle.std.proofs.shelf.Tests.{and-parts, and-from, both-ways, cond-both, eqb-true, eqb-false, ltb-true, ltb-false, leb-true}
+use lib.Dec.{eqb, leb}
+use lib.ListN.{length, take}
+use Rattle.std.proofs.shelf.Lists.{append-assoc, append-cancel-left, append-nil, nil-from-length}
+use Rattle.std.proofs.shelf.Tests.{and-parts, both-ways, cond-both, eqb-true, eqb-false, leb-true}
 use Rattle.std.proofs.shelf.Ways.{tells}
 use Rattle.std.specs.declared.result.Result.{Result}
 use Rattle.std.specs.declared.result.Result.the-variants.{Ok, Err}
-use Rattle.text.specs.Grammar.{Piece, word, number, blank, digit, all, value-from, Spells}
-use Rattle.text.specs.Reader.{and-then, past, letters-at, digits-at, some-digits}
+use Rattle.text.specs.Grammar.{word, number, blank, digit, all, value-from, Spells}
+use Rattle.text.specs.Reader.{and-then, letters-at, digits-at, some-digits}
 use Rattle.text.proofs.Splits.{starts, starts-alike, split-unique, digits-within, value-append, value-grows}
-
--- white space, all that there is
-pub record Gap (bs : List ℕ) (i j : ℕ) : Type 0 where
-  pub gap : List ℕ
-  pub left : List ℕ
-  pub cut : bs ≡ gap ++ left
-  pub white : all blank gap ≡ true
-  pub ends : starts blank left ≡ false
-  pub place : j ≡ i + length gap
-
-pub past-splits : (bs : List ℕ) (i : ℕ) → Gap bs i (past bs i)
-unfolding past all
-past-splits [] i = record { gap = []; left = []; cut = refl; white = refl; ends = refl; place = omega arith }
-past-splits (b ∷ bs) i =
-    cond-both (blank b) (past bs (i + 1)) i (λ j. Gap (b ∷ bs) i j)
-    (λ e.
-    let g = past-splits bs (i + 1) in
-    record {
-      gap = b ∷ g .gap;
-      left = g .left;
-      cut = ap (λ xs. b ∷ xs) (g .cut);
-      white = and-from (blank b) (all blank (g .gap)) e (g .white);
-      ends = g .ends;
-      place = g .place ∙ omega arith;
-    })
-    (λ e. record { gap = []; left = b ∷ bs; cut = refl; white = refl; ends = e; place = omega arith })
-
--- a word that stands here whole, or up to a letter
-pub record Whole (w bs : List ℕ) (i j : ℕ) : Type 0 where
-  pub left : List ℕ
-  pub cut : bs ≡ w ++ left
-  pub place : j ≡ i + length w
-
-pub record Partly (w bs : List ℕ) (i j : ℕ) : Type 0 where
-  pub front : List ℕ
-  pub letter : ℕ
-  pub more : List ℕ
-  pub left : List ℕ
-  pub spelled : w ≡ front ++ (letter ∷ more)
-  pub cut : bs ≡ front ++ left
-  pub differs : take 1 left ≡ letter ∷ [] → ⊥
-  pub place : j ≡ i + length front
-
-abbrev pub Letters : List ℕ → List ℕ → ℕ → Result ℕ ℕ → Type 0
-Letters w bs i (Ok j) = Whole w bs i j
-Letters w bs i (Err j) = Partly w bs i j
-
-letters-one-more : (w : List ℕ) (b : ℕ) (bs : List ℕ) (i : ℕ) (r : Result ℕ ℕ) → Letters w bs (i + 1) r → Letters (b ∷ w) (b ∷ bs) i r
-letters-one-more w b bs i (Ok j) h = record { left = h .left; cut = ap (λ xs. b ∷ xs) (h .cut); place = h .place ∙ omega arith }
-letters-one-more w b bs i (Err j) h = record {
-  front = b ∷ h .front;
-  letter = h .letter;
-  more = h .more;
-  left = h .left;
-  spelled = ap (λ xs. b ∷ xs) (h .spelled);
-  cut = ap (λ xs. b ∷ xs) (h .cut);
-  differs = h .differs;
-  place = h .place ∙ omega arith;
-}
-
-pub letters-splits : (w bs : List ℕ) (i : ℕ) → Letters w bs i (letters-at w bs i)
-unfolding letters-at
-letters-splits [] bs i = record { left = bs; cut = refl; place = omega arith }
-letters-splits (x ∷ w) [] i = record {
-  front = [];
-  letter = x;
-  more = w;
-  left = [];
-  spelled = refl;
-  cut = refl;
-  differs = λ e. let z : _≡_ {A = ℕ} 0 1 = cc in omega arith;
-  place = omega arith;
-}
-letters-splits (x ∷ w) (b ∷ bs) i =
-    cond-both (eqb b x) (letters-at w bs (i + 1)) (Err i) (λ r. Letters (x ∷ w) (b ∷ bs) i r)
-    (λ e. subst (λ y. Letters (y ∷ w) (b ∷ bs) i (letters-at w bs (i + 1))) (eqb-true b x e) (letters-one-more w b bs i (letters-at w bs (i + 1)) (letters-splits w bs (i + 1))))
-    (λ e. record {
-      front = [];
-      letter = x;
-      more = w;
-      left = b ∷ bs;
-      spelled = refl;
-      cut = refl;
-      differs = λ q. eqb-false b x e (cc);
-      place = omega arith;
-    })
-
--- digits, all that there are, after digits that come to n; or up to the one that makes the number too large
-pub record Some-digits (bs : List ℕ) (n i v j : ℕ) : Type 0 where
-  pub ds : List ℕ
-  pub left : List ℕ
-  pub cut : bs ≡ ds ++ left
-  pub digits : all digit ds ≡ true
-  pub ends : starts digit left ≡ false
-  pub value : value-from n ds ≡ v
-  pub fits : v < 4294967296
-  pub place : j ≡ i + length ds
-
-pub record Too-large (bs : List ℕ) (n i j : ℕ) : Type 0 where
-  pub front : List ℕ
-  pub one : ℕ
-  pub left : List ℕ
-  pub cut : bs ≡ front ++ (one ∷ left)
-  pub digits : all digit front ≡ true
-  pub also : digit one ≡ true
-  pub fits : value-from n front < 4294967296
-  pub large : 4294967296 ≤ value-from n (front ++ (one ∷ []))
-  pub place : j ≡ i + length front
-
-abbrev pub Digits : List ℕ → ℕ → ℕ → Result (ℕ × ℕ) ℕ → Type 0
-Digits bs n i (Ok r) = Some-digits bs n i (r .0) (r .1)
-Digits bs n i (Err j) = Too-large bs n i j
-
-digits-one-more :
-    (b : ℕ) (bs : List ℕ) (n i : ℕ) (r : Result (ℕ × ℕ) ℕ) → digit b ≡ true → Digits bs (n * 10 + (b - 48)) (i + 1) r → Digits (b ∷ bs) n i r
-unfolding all value-from
-digits-one-more b bs n i (Ok r) e h = record {
-  ds = b ∷ h .ds;
-  left = h .left;
-  cut = ap (λ xs. b ∷ xs) (h .cut);
-  digits = and-from (digit b) (all digit (h .ds)) e (h .digits);
-  ends = h .ends;
-  value = h .value;
-  fits = h .fits;
-  place = h .place ∙ omega arith;
-}
-digits-one-more b bs n i (Err j) e h = record {
-  front = b ∷ h .front;
-  one = h .one;
-  left = h .left;
-  cut = ap (λ xs. b ∷ xs) (h .cut);
-  digits = and-from (digit b) (all digit (h .front)) e (h .digits);
-  also = h .also;
-  fits = h .fits;
-  large = h .large;
-  place = h .place ∙ omega arith;
-}
-
-pub digits-splits : (bs : List ℕ) (n i : ℕ) → n < 4294967296 → Digits bs n i (digits-at bs n i)
-unfolding digits-at all value-from
-digits-splits [] n i h = record { ds = []; left = []; cut = refl; digits = refl; ends = refl; value = refl; fits = h; place = omega arith }
-digits-splits (b ∷ bs) n i h =
-    let m : ℕ = n * 10 + (b - 48) in
-    cond-both (digit b) (cond (ltb m 4294967296) (digits-at bs m (i + 1)) (Err i)) (Ok (n, i)) (λ r. Digits (b ∷ bs) n i r)
-    (λ e.
-    cond-both (ltb m 4294967296) (digits-at bs m (i + 1)) (Err i) (λ r. Digits (b ∷ bs) n i r)
-    (λ s. digits-one-more b bs n i (digits-at bs m (i + 1)) e (digits-splits bs m (i + 1) (ltb-true m 4294967296 s)))
-    (λ s. record {
-      front = [];
-      one = b;
-      left = bs;
-      cut = refl;
-      digits = refl;
-      also = e;
-      fits = h;
-      large = ltb-false m 4294967296 s;
-      place = omega arith;
-    }))
-    (λ e. record { ds = []; left = b ∷ bs; cut = refl; digits = refl; ends = e; value = refl; fits = h; place = omega arith })
+use Rattle.text.proofs.Scans.{Letters, letters-splits, Some-digits, Too-large, Digits, digits-splits}
 
 -- a word or a number, whichever is to come. A word has no number: 0 stands for it
 pub data Want : Type 0 where
   the-word : List ℕ → Want
   any-number : Want
 
+-- how it may be written
 abbrev pub Spelled : Want → ℕ → List ℕ → Type 0
 Spelled (the-word w) v bs = (v ≡ 0) × Spells (word w) bs
 Spelled any-number v bs = Spells (number v) bs
 
+-- how it is read, after the white space
 abbrev pub read-want : Want → List ℕ → ℕ → Result (ℕ × ℕ) ℕ
 read-want (the-word w) bs i = and-then (letters-at w bs i) (λ j. Ok (0, j))
 read-want any-number bs i = some-digits bs i
 
--- it was read, and whatever begins so can be read in no other way
+-- a number ends where no digit follows, and a word anywhere
+abbrev pub Ends : Want → List ℕ → Type 0
+Ends (the-word w) rest = Unit {0}
+Ends any-number rest = starts digit rest ≡ false
+
+pub ends-before : (w : Want) (rest : List ℕ) → starts digit rest ≡ false → Ends w rest
+ends-before (the-word w) rest e = tt
+ends-before any-number rest e = e
+
+pub ends-alike : (w : Want) (xs rest : List ℕ) → take 1 xs ≡ take 1 rest → Ends w rest → Ends w xs
+ends-alike (the-word w) xs rest a e = tt
+ends-alike any-number xs rest a e = starts-alike digit xs rest a ∙ e
+
+-- it is written in a list in one way
+pub spelled-same :
+    (w : Want) (v v′ : ℕ) (ds ds′ rest rest′ : List ℕ) → Spelled w v ds → Spelled w v′ ds′ → Ends w rest → Ends w rest′ → ds ++ rest ≡ ds′ ++ rest′ →
+    (v ≡ v′) × (rest ≡ rest′)
+spelled-same (the-word w) v v′ ds ds′ rest rest′ s s′ d d′ e =
+    (s .0 ∙ sym (s′ .0), append-cancel-left w rest rest′ (ap (λ xs. xs ++ rest) (sym (s .1)) ∙ e ∙ ap (λ xs. xs ++ rest′) (s′ .1)))
+spelled-same any-number v v′ ds ds′ rest rest′ s s′ d d′ e =
+    let same = split-unique digit ds ds′ rest rest′ (s .1) (s′ .1) d d′ e in
+    (sym (s .2) ∙ ap (value-from 0) (same .0) ∙ s′ .2, same .1)
+
+-- it was read
 pub record Got (w : Want) (bs : List ℕ) (i v j : ℕ) : Type 0 where
   pub ds : List ℕ
   pub left : List ℕ
   pub cut : bs ≡ ds ++ left
   pub spelled : Spelled w v ds
   pub place : j ≡ i + length ds
-  pub only :
-      (xs : List ℕ) → take 1 xs ≡ take 1 left → (v′ : ℕ) (ds′ rest : List ℕ) → ds ++ xs ≡ ds′ ++ rest → Spelled w v′ ds′ → starts digit rest ≡ false →
-      (v ≡ v′) × (xs ≡ rest)
+  pub ends : Ends w left
 
 -- it was read up to a byte: it can go on before that byte, and not with it
 pub record Stopped (w : Want) (bs : List ℕ) (i j : ℕ) : Type 0 where
@@ -206,12 +71,14 @@ pub record Stopped (w : Want) (bs : List ℕ) (i j : ℕ) : Type 0 where
   pub place : j ≡ i + length front
   pub live : (v : ℕ) × (more : List ℕ) × Spelled w v (front ++ more)
   pub dead :
-      (xs : List ℕ) → take 1 xs ≡ take 1 left → (v : ℕ) (ds rest : List ℕ) → front ++ xs ≡ ds ++ rest → Spelled w v ds → starts digit rest ≡ false → ⊥
+      (xs : List ℕ) → take 1 xs ≡ take 1 left → (v : ℕ) (ds rest : List ℕ) → front ++ xs ≡ ds ++ rest → Spelled w v ds → Ends w rest → ⊥
 
+-- what reading it answers
 abbrev pub Want-read : Want → List ℕ → ℕ → Result (ℕ × ℕ) ℕ → Type 0
 Want-read w bs i (Ok n) = Got w bs i (n .0) (n .1)
 Want-read w bs i (Err j) = Stopped w bs i j
 
+-- a word, by its letters
 word-read : (w bs : List ℕ) (i : ℕ) (r : Result ℕ ℕ) → Letters w bs i r → Want-read (the-word w) bs i (and-then r (λ j. Ok (0, j)))
 word-read w bs i (Ok j) h = record {
   ds = w;
@@ -219,7 +86,7 @@ word-read w bs i (Ok j) h = record {
   cut = h .cut;
   spelled = (refl, refl);
   place = h .place;
-  only = λ xs a v ds rest e s d. (sym (s .0), append-cancel-left w xs rest (e ∙ ap (λ ys. ys ++ rest) (s .1)));
+  ends = tt;
 }
 word-read w bs i (Err j) h = record {
   front = h .front;
@@ -233,11 +100,13 @@ word-read w bs i (Err j) h = record {
       h .differs (sym a ∙ ap (take 1) after);
 }
 
+-- a number begins with a digit
 digit-first : (v : ℕ) (ds rest : List ℕ) → Spells (number v) ds → starts digit (ds ++ rest) ≡ true
 unfolding all
 digit-first v [] rest s = absurd (omega (arith, s .0))
 digit-first v (d ∷ ds) rest s = and-parts (digit d) (all digit ds) (s .1) .0
 
+-- white space is no digit
 pub blank-not-digit : (b : ℕ) → blank b ≡ true → digit b ≡ false
 blank-not-digit b e = grind (arith, tells)
 
@@ -252,6 +121,7 @@ unfolding all value-from
 some-spelling (the-word w) = (0, w, (refl, refl))
 some-spelling any-number = (0, 48 ∷ [], (omega arith, refl, refl, omega arith))
 
+-- no digits at all
 none-read : (bs : List ℕ) (i : ℕ) → starts digit bs ≡ false → Stopped any-number bs i i
 none-read bs i e = record {
   front = [];
@@ -263,6 +133,7 @@ none-read bs i e = record {
       both-ways (starts digit xs) (starts-alike digit xs bs a ∙ e) (ap (starts digit) q ∙ digit-first v ds rest s);
 }
 
+-- digits that come to a number that fits, or none
 some-read : (bs : List ℕ) (i : ℕ) (n : ℕ × ℕ) → Some-digits bs 0 i (n .0) (n .1) → Want-read any-number bs i (cond (eqb (n .1) i) (Err i) (Ok n))
 some-read bs i n h =
     cond-both (eqb (n .1) i) (Err i) (Ok n) (λ r. Want-read any-number bs i r)
@@ -276,9 +147,7 @@ some-read bs i n h =
       cut = h .cut;
       spelled = (omega (arith, eqb-false (n .1) i e, h .place), h .digits, h .value, h .fits);
       place = h .place;
-      only = λ xs a v ds rest q s d.
-          let same = split-unique digit (h .ds) ds xs rest (h .digits) (s .1) (starts-alike digit xs (h .left) a ∙ h .ends) d q in
-          (sym (h .value) ∙ ap (value-from 0) (same .0) ∙ s .2, same .1);
+      ends = h .ends;
     })
 
 -- one digit alone is never too large
@@ -287,6 +156,7 @@ unfolding value-from
 front-some [] one e h = absurd (omega (arith, leb-true one 57 (and-parts (leb 48 one) (leb one 57) e .1)))
 front-some (x ∷ front) one e h = omega arith
 
+-- no number that fits has digits that are too many already
 no-number :
     (front : List ℕ) (one : ℕ) (xs : List ℕ) (v : ℕ) (ds rest : List ℕ) → all digit front ≡ true → digit one ≡ true →
     4294967296 ≤ value-from 0 (front ++ (one ∷ [])) → take 1 xs ≡ one ∷ [] → front ++ xs ≡ ds ++ rest → Spells (number v) ds → starts digit rest ≡ false → ⊥
@@ -298,6 +168,7 @@ no-number front one (x ∷ xs) v ds rest hf ho l a q s d =
     let value : value-from 0 ds ≡ value-from (value-from 0 (front ++ (one ∷ []))) (r .0) = ap (value-from 0) begun ∙ value-append 0 (front ++ (one ∷ [])) (r .0) in
     omega (arith, s .2, s .3, value-grows (value-from 0 (front ++ (one ∷ []))) (r .0))
 
+-- digits up to the one that is too many
 large-read : (bs : List ℕ) (i j : ℕ) → Too-large bs 0 i j → Stopped any-number bs i j
 large-read bs i j h = record {
   front = h .front;
@@ -313,10 +184,12 @@ large-read bs i j h = record {
   dead = λ xs a v ds rest q s d. no-number (h .front) (h .one) xs v ds rest (h .digits) (h .also) (h .large) a q s d;
 }
 
+-- a number, by its digits
 number-read : (bs : List ℕ) (i : ℕ) (r : Result (ℕ × ℕ) ℕ) → Digits bs 0 i r → Want-read any-number bs i (and-then r (λ n. cond (eqb (n .1) i) (Err i) (Ok n)))
 number-read bs i (Ok n) h = some-read bs i n h
 number-read bs i (Err j) h = large-read bs i j h
 
+-- reading a word or a number is right in either case
 pub want-read : (w : Want) (bs : List ℕ) (i : ℕ) → Want-read w bs i (read-want w bs i)
 want-read (the-word w) bs i = word-read w bs i (letters-at w bs i) (letters-splits w bs i)
 want-read any-number bs i = number-read bs i (digits-at bs 0 i) (digits-splits bs 0 i (omega arith))

@@ -1,8 +1,8 @@
 -- Where a list of bytes is cut in two.
 use mathlib.Core.Path.{_≡_, refl, sym, ap, _∙_}
-use mathlib.Core.Bool.{Bool, true, false, _&&_}
+use mathlib.Core.Bool.{Bool, true, false}
 use mathlib.Core.List.{List, [], _∷_, _++_}
-use Prim.Native.Nat.{ℕ, _+_, _*_, _-_, _≤_, _<_}
+use Prim.Native.Nat.{ℕ, _+_, _*_, _-_, _≤_}
 use native.Mathlib.Omega.{arith}
 use lib.ListN.{length, take, drop}
 use Rattle.std.proofs.shelf.Lists.{length-drop, length-append, drop-drop, drop-at}
@@ -26,6 +26,7 @@ pub take-alike : (front xs ys : List ℕ) → take 1 xs ≡ take 1 ys → take 1
 take-alike [] xs ys e = e
 take-alike (b ∷ front) xs ys e = refl
 
+-- a test of every byte, of a list in two parts
 pub all-append : (p : ℕ → Bool) (xs ys : List ℕ) → all p xs ≡ true → all p ys ≡ true → all p (xs ++ ys) ≡ true
 unfolding all
 all-append p [] ys h k = k
@@ -74,11 +75,13 @@ digits-within (x ∷ front) b xs (d ∷ ds) rest hf hb hr e =
     let q : ds ≡ front ++ (b ∷ r .0) = r .1 in
     (r .0, (cc))
 
+-- the value of digits in two parts
 pub value-append : (n : ℕ) (xs ys : List ℕ) → value-from n (xs ++ ys) ≡ value-from (value-from n xs) ys
 unfolding value-from
 value-append n [] ys = refl
 value-append n (b ∷ xs) ys = value-append (n * 10 + (b - 48)) xs ys
 
+-- more digits make no number smaller
 pub value-grows : (n : ℕ) (xs : List ℕ) → n ≤ value-from n xs
 unfolding value-from
 value-grows n [] = omega arith

@@ -1,6 +1,6 @@
 -- How a line is read, as a function. What it answers is said in Grammar: nobody has to believe this one.
 -- Each reader goes on at place i of the line, and `bs` is what the line has from there.
-use mathlib.Core.Bool.{Bool, true, false, cond}
+use mathlib.Core.Bool.{cond}
 use mathlib.Core.List.{List, [], _∷_}
 use Prim.Native.Nat.{ℕ, _+_, _*_, _-_, max}
 use lib.Dec.{ltb, eqb}
@@ -8,7 +8,6 @@ use lib.ListN.{length, drop}
 use lib.Chars.{codes}
 use Rattle.std.specs.declared.result.Result.{Result}
 use Rattle.std.specs.declared.result.Result.the-variants.{Ok, Err}
-use Rattle.rules.specs.declared.Move.{Move}
 use Rattle.rules.specs.declared.Call.{Call}
 use Rattle.rules.specs.declared.Call.the-variants.{Sit, Play, Ticks, See, May, Back, CanForce}
 use Rattle.text.specs.Grammar.{blank, digit}
@@ -50,7 +49,7 @@ abbrev pub number-at : ℕ → List ℕ → ℕ → Result (ℕ × ℕ) ℕ
 number-at least line i = and-then (gap-at least line i) (λ j. some-digits (drop j line) j)
 
 -- the line ends, but for white space
-abbrev pub end-at : {X : Type 0} → List ℕ → ℕ → X → Result X ℕ
+abbrev pub end-at : List ℕ → ℕ → Call → Result Call ℕ
 end-at line i c = cond (eqb (past (drop i line) i) (length line)) (Ok c) (Err (past (drop i line) i))
 
 -- a form of call: what is still to come, and the call that it makes. A number that comes goes into what follows

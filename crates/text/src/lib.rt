@@ -1,4 +1,5 @@
 // Calls as lines of text. What a call's line is stands in specs/Grammar.
+// Each reader starts at a place of the line, and answers what it read and the place after it, or else the place of the first byte that doesn't fit.
 ghost use lib.ListN.{drop};
 ghost use mathlib.Core.Path.{_≡_};
 ghost use Prim.Native.Nat.{_≤_};
@@ -60,6 +61,7 @@ fn gap(line: &[u8], from: usize) -> Result<usize, usize>
     if i == from { Err(i) } else { Ok(i) }
 }
 
+// The word, letter by letter.
 fn letters(line: &[u8], from: usize, word: &[u8]) -> Result<usize, usize>
     ensures { λ r. ⌜ r ≡ letters-at (now (word .entry)) (drop from (now (line .entry))) from ⌝ }
 {
@@ -74,6 +76,7 @@ fn letters(line: &[u8], from: usize, word: &[u8]) -> Result<usize, usize>
     Ok(i)
 }
 
+// The word that a line begins with, after any white space.
 fn first_word(line: &[u8], word: &[u8]) -> Result<usize, usize>
     ensures { λ r. ⌜ r ≡ word-at (now (word .entry)) 0 (now (line .entry)) 0 ⌝ }
 {
@@ -81,6 +84,7 @@ fn first_word(line: &[u8], word: &[u8]) -> Result<usize, usize>
     letters(line, i, word)
 }
 
+// White space and a word.
 fn next_word(line: &[u8], from: usize, word: &[u8]) -> Result<usize, usize>
     ensures { λ r. ⌜ r ≡ word-at (now (word .entry)) 1 (now (line .entry)) from ⌝ }
 {
@@ -88,7 +92,7 @@ fn next_word(line: &[u8], from: usize, word: &[u8]) -> Result<usize, usize>
     letters(line, i, word)
 }
 
-// The number of the digits, and where they end.
+// All digits from here on, which may be none, and their number.
 fn digits(line: &[u8], from: usize) -> Result<(u32, usize), usize>
     ensures { λ r. ⌜ r ≡ digits-at (drop from (now (line .entry))) 0 from ⌝ }
 {
@@ -105,14 +109,16 @@ fn digits(line: &[u8], from: usize) -> Result<(u32, usize), usize>
     Ok((n, i))
 }
 
+// White space and a number, which has at least one digit.
 fn number(line: &[u8], from: usize) -> Result<(u32, usize), usize>
     ensures { λ r. ⌜ r ≡ number-at 1 (now (line .entry)) from ⌝ }
 {
     let i = gap(line, from)?;
-    let (n, end) = digits(line, i)?;
-    if end == i { Err(i) } else { Ok((n, end)) }
+    let (n, after) = digits(line, i)?;
+    if after == i { Err(i) } else { Ok((n, after)) }
 }
 
+// The call, if the line ends here but for white space.
 fn end(line: &[u8], from: usize, call: Call) -> Result<Call, usize>
     ensures { λ r. ⌜ r ≡ end-at (now (line .entry)) from call ⌝ }
 {

@@ -15,15 +15,15 @@ returns-in-Break-given c =
     let p = err-from-errBy (c .from-residual .result) (c .from-residual .ensures .1) in
     p .1 ∙ ap (λ u. Err u) (p .2)
     ∙ sym (words-fault string-bytes (c .loop-i .given) (c .args .words .now) (c .loop-i .i) (c .in-Break-given .field-0 .0) (c .index-words-i .result)
-      (c .loop-i-test .taken) (c .index-words-i .is)
-      (c .in-Break-given .ensures tt ∙ ap (λ w. with-word (c .loop-i .given) w (c .loop-i .i)) (c .as-str .ensures .value)))
+    (c .loop-i-test .taken) (c .index-words-i .is)
+    (c .in-Break-given .ensures tt ∙ ap (λ w. with-word (c .loop-i .given) w (c .loop-i .i)) (c .as-str .ensures .value)))
     ∙ c .loop-i .inv
 
 pub loop-i-again : need.loop-i-again
 loop-i-again c =
     sym (words-more string-bytes (c .loop-i .given) (c .args .words .now) (c .loop-i .i) (c .in-Continue-given .given) (c .index-words-i .result)
-      (c .loop-i-test .taken) (c .index-words-i .is)
-      (c .in-Continue-given .ensures tt ∙ ap (λ w. with-word (c .loop-i .given) w (c .loop-i .i)) (c .as-str .ensures .value)))
+    (c .loop-i-test .taken) (c .index-words-i .is)
+    (c .in-Continue-given .ensures tt ∙ ap (λ w. with-word (c .loop-i .given) w (c .loop-i .i)) (c .as-str .ensures .value)))
     ∙ c .loop-i .inv
 
 pub returns : need.returns
