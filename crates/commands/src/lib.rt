@@ -3,7 +3,13 @@ mod lines;
 mod options;
 
 pub use lines::Reply;
+pub use lines::ReplyDebug;
+pub use lines::ReplyPartialEq;
 pub use lines::reply_to;
 pub use options::Fault;
+pub use options::FaultDebug;
+pub use options::FaultPartialEq;
 pub use options::Request;
+pub use options::RequestDebug;
+pub use options::RequestPartialEq;
 pub use options::read_request;
