@@ -109,12 +109,19 @@ fn open_game(rt: &LibcRuntime, game: &str) -> Result<(), AnyError> {
 
 fn answer_file(rt: &LibcRuntime, calls: &str) -> Result<(), AnyError> {
     match File::open(rt, calls) {
-        Ok(file) => {
-            answer_lines(rt, file)?;
-            Ok(())
-        }
+        Ok(file) => answer_input(rt, file),
         Err(e) => {
             let sentence = format!(rt.alloc(), "the calls file '{calls}' can't be read: {e}")?;
+            fail(rt, sentence.as_str())
+        }
+    }
+}
+
+fn answer_input<R: io::Read + Drop>(rt: &LibcRuntime, input: R) -> Result<(), AnyError> {
+    match answer_lines(rt, input) {
+        Ok(()) => Ok(()),
+        Err(e) => {
+            let sentence = format!(rt.alloc(), "calls can't be read, or answers written: {e}")?;
             fail(rt, sentence.as_str())
         }
     }
@@ -177,10 +184,7 @@ pub fn answer(rt: &LibcRuntime, words: &[String]) -> Result<(), AnyError>
             open_game(rt, word_at(words, game))?;
             match calls {
                 Some(i) => answer_file(rt, word_at(words, i)),
-                None => {
-                    answer_lines(rt, rt.stdin())?;
-                    Ok(())
-                }
+                None => answer_input(rt, rt.stdin()),
             }
         }
     }
