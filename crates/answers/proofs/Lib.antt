@@ -1,0 +1,4 @@
+pub mod AnswerBytes
+pub mod Sizes
+pub mod WritingLemmas
+pub mod ReadingLemmas

@@ -1,0 +1,4 @@
+pub mod Answers
+pub mod Size
+pub mod Writing
+pub mod Reading
