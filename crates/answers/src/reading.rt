@@ -11,10 +11,10 @@ use bytes::field_at;
 use rules::Refusal;
 
 // A reply, if there are just as many bytes as it wants.
-fn whole(length: usize, wanted: usize, reply: Reply) -> Option<Reply>
-    ensures { λ r. ⌜ r ≡ cond (eqb length wanted) (Some reply) None ⌝ }
+fn whole(count: usize, wanted: usize, reply: Reply) -> Option<Reply>
+    ensures { λ r. ⌜ r ≡ cond (eqb count wanted) (Some reply) None ⌝ }
 {
-    if length == wanted { Some(reply) } else { None }
+    if count == wanted { Some(reply) } else { None }
 }
 
 // A position.

@@ -1,7 +1,6 @@
 // Calls as bytes, read.
 ghost use mathlib.Core.Path.{_≡_};
 ghost use Prim.Native.Nat.{_+_, _*_, _≤_};
-ghost use lib.ListN.{length};
 ghost use Rattle.std.specs.Options.{Cases as BySome};
 ghost use Rattle.bytes.specs.Fields.{fields-at};
 ghost use Rattle.std.specs.declared.result.Result.the-variants.{Err};
@@ -36,11 +35,11 @@ fn count_fields(kind: u8) -> usize
     }
 }
 
-// The length, if it is the one that is wanted.
-fn exactly(length: usize, wanted: usize) -> Option<usize>
-    ensures { λ r. ⌜ BySome r (length ≡ wanted → ⊥) (λ n. (n ≡ wanted) × (length ≡ wanted)) ⌝ }
+// So many bytes, if just so many are wanted.
+fn exactly(count: usize, wanted: usize) -> Option<usize>
+    ensures { λ r. ⌜ BySome r (count ≡ wanted → ⊥) (λ n. (n ≡ wanted) × (count ≡ wanted)) ⌝ }
 {
-    if length == wanted { Some(length) } else { None }
+    if count == wanted { Some(count) } else { None }
 }
 
 // The call of this kind, one of 0 to 6, whose fields follow the first byte.
