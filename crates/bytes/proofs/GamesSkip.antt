@@ -5,7 +5,7 @@ use mathlib.Core.List.{List, [], _∷_, _++_}
 use Prim.Native.Nat.{ℕ, zero, suc, _+_, _-_, _*_, _≤_, _<_}
 use native.Mathlib.Omega.{arith}
 use lib.ListN.{length, getD, take, drop}
-use Rattle.std.proofs.shelf.Lists.{length-drop, length-take-le, take-append-drop}
+use Rattle.std.proofs.shelf.Lists.{length-drop, length-take-le, take-append-drop, drop-drop}
 use Rattle.rules.specs.Rules.{Expr}
 use Rattle.rules.specs.Bounds.{fits-depth, expr-parts}
 use Rattle.bytes.specs.Exprs.{Parsed, got, unreadable, and-then, Kind, join, read-exprs}
@@ -61,3 +61,12 @@ tallied-end bs i at count t h =
     let x = then-got (read-exprs count (drop at bs)) (λ es r. got (0 + exprs-parts es) r) (t + 0) (drop i bs) (sym h) in
     let e = same-got (0 + exprs-parts (x .0)) (t + 0) (x .1) (drop i bs) (x .3) in
     (x .0, x .2 ∙ ap (got (x .0)) (e .1), omega (arith, e .0))
+
+-- expressions that were passed at the front of the part from `at` on were passed there
+pub handed-on :
+    (bs part : List ℕ) (at n e : ℕ) (es : List Expr) → part ≡ drop at bs → at ≤ length bs → Passed part 0 n e es → Passed bs at n (at + e) es
+handed-on bs part at n e es same l p = record {
+  reads = ap (read-exprs n) (sym same) ∙ p .reads ∙ ap (got es) (ap (drop e) same ∙ drop-drop e at bs);
+  after = omega arith;
+  inside = omega (arith, p .inside, ap length same, length-drop at bs);
+}

@@ -120,12 +120,11 @@ fn head_at(bytes: &[u8], at: usize) -> Option<Head>
     })
 }
 
-// Passes over `count` expressions from `at` on, by the count of those still to come: however deep they are nested, nothing is kept of them.
-fn skip_exprs(bytes: &[u8], at: usize, count: usize) -> Option<Skip>
-    requires { ⌜ at ≤ length (now bytes) ⌝ }
-    ensures { λ r. ⌜ BySome r (read-exprs count (drop at (now (bytes .entry))) ≡ unreadable) (λ s. (es : List Expr) × Passed (now (bytes .entry)) at count (s .end) es × (s .parts ≡ exprs-parts es) × (s .parts ≤ s .end - at)) ⌝ }
+// Passes over `count` expressions at the front, by the count of those still to come: however deep they are nested, nothing is kept of them.
+fn skip_front(bytes: &[u8], count: usize) -> Option<Skip>
+    ensures { λ r. ⌜ BySome r (read-exprs count (now (bytes .entry)) ≡ unreadable) (λ s. (es : List Expr) × Passed (now (bytes .entry)) 0 count (s .end) es × (s .parts ≡ exprs-parts es) × (s .parts ≤ s .end)) ⌝ }
 {
-    let mut i = at;
+    let mut i = 0;
     let mut pending = count;
     let mut parts = 0;
     while pending > 0 {
@@ -140,6 +139,20 @@ fn skip_exprs(bytes: &[u8], at: usize, count: usize) -> Option<Skip>
         parts += 1;
     }
     Some(Skip { end: i, parts })
+}
+
+// The same from `at` on: the part of the bytes that starts there is handed on.
+fn skip_exprs(bytes: &[u8], at: usize, count: usize) -> Option<Skip>
+    requires { ⌜ at ≤ length (now bytes) ⌝ }
+    ensures { λ r. ⌜ BySome r (read-exprs count (drop at (now (bytes .entry))) ≡ unreadable) (λ s. (es : List Expr) × Passed (now (bytes .entry)) at count (s .end) es × (s .parts ≡ exprs-parts es) × (s .parts ≤ s .end - at)) ⌝ }
+{
+    let Some(front) = skip_front(&bytes[at..], count) else {
+        return None;
+    };
+    Some(Skip {
+        end: at + front.end,
+        parts: front.parts,
+    })
 }
 
 // Where `count` expressions from `at` on end, if each has at most `levels` levels.
