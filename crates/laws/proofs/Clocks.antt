@@ -17,11 +17,11 @@ use Rattle.rules.specs.Calls.{Table, State, Stage, no-table, table-at, table-ov
 use Rattle.laws.specs.Clocks.{Clocks-only-fall, Clocks-ran, Table-ticked, Ticked, Ticks-take-from-whose-turn, is-at, Tables-apart, Game-stays, new-with, New-table}
 
 -- what holds of the state that a call leads to where it is taken, and of the state that was, holds after the call
-after-step : (can : Stage) (l : Limits) (s : State) (c : Call) (P : State → Type 0) → P (next s c) → P s → P (step can l s c)
+pub after-step : (can : Stage) (l : Limits) (s : State) (c : Call) (P : State → Type 0) → P (next s c) → P s → P (step can l s c)
 unfolding step
 after-step can l s c P taken left = cond-both (eqb (refusal can l s c) 0) (next s c) s P (λ _. taken) (λ _. left)
 
-step-taken : (can : Stage) (l : Limits) (s : State) (c : Call) → refusal can l s c ≡ 0 → step can l s c ≡ next s c
+pub step-taken : (can : Stage) (l : Limits) (s : State) (c : Call) → refusal can l s c ≡ 0 → step can l s c ≡ next s c
 unfolding step
 step-taken can l s c e = cond-true (eqb (refusal can l s c) 0) (next s c) s (eq-eqb _ 0 e)
 

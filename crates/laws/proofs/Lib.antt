@@ -9,3 +9,7 @@ mod Refusals
 mod Pile
 mod PileForce
 mod PileWorked
+mod Values
+mod Legal
+mod Replies
+mod Bounds

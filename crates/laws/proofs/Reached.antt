@@ -36,7 +36,7 @@ abbrev Sound : Game → Table → Type 0
 Sound g u = (replay g (g .start) (u .played) ≡ u .cells) × (all-were-legal g (g .start) (u .played) ≡ true)
 
 -- what a test that does not refuse says
-passed : (b : Bool) (x k : ℕ) → 0 < k → cond b x k ≡ 0 → (b ≡ true) × (x ≡ 0)
+pub passed : (b : Bool) (x k : ℕ) → 0 < k → cond b x k ≡ 0 → (b ≡ true) × (x ≡ 0)
 passed true x k l h = (refl, h)
 passed false x k l h = absurd (omega arith)
 
@@ -45,12 +45,12 @@ passed-not true x k l h = absurd (omega arith)
 passed-not false x k l h = (refl, h)
 
 -- a move that is not refused is played at a table that is there and not over, and is legal
-record Playable (s : State) (t : ℕ) (v : Move) : Type 0 where
-  there : t < length (s .tables)
-  goes-on : is-over (s .game) (table-at s t .cells) ≡ false
-  legal : is-legal (s .game) (table-at s t .cells) v ≡ true
+pub record Playable (s : State) (t : ℕ) (v : Move) : Type 0 where
+  pub there : t < length (s .tables)
+  pub goes-on : is-over (s .game) (table-at s t .cells) ≡ false
+  pub legal : is-legal (s .game) (table-at s t .cells) v ≡ true
 
-playable : (l : Limits) (s : State) (t m : ℕ) (v : Move) → refusal-of l s (Play t m v) ≡ 0 → Playable s t v
+pub playable : (l : Limits) (s : State) (t m : ℕ) (v : Move) → refusal-of l s (Play t m v) ≡ 0 → Playable s t v
 unfolding refusal-of
 playable l s t m v h =
     let u : Table = table-at s t in

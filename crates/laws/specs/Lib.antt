@@ -1,8 +1,12 @@
+pub mod Values
 pub mod Effects
+pub mod Legal
 pub mod Listing
 pub mod Forcing
 pub mod Layers
 pub mod Reached
 pub mod Clocks
+pub mod Replies
 pub mod Refusals
+pub mod Bounds
 pub mod Pile
