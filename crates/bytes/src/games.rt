@@ -80,14 +80,15 @@ struct Found {
 }
 
 // How many parts an expression of this kind, from 1 on, has.
-fn arity_of(kind: u8) -> usize
-    ensures { λ r. ⌜ (1 ≤ kind → kind ≤ 12 → r ≡ kind-after (kind - 1) .arity) ⌝ ∗ ⌜ r ≤ 3 ⌝ }
+pub fn arity_of(kind: u8) -> usize
+    ensures known { λ r. ⌜ (1 ≤ kind → kind ≤ 12 → r ≡ kind-after (kind - 1) .arity) ⌝ }
+    ensures few { λ r. ⌜ r ≤ 3 ⌝ }
 {
     if kind == 1 {
         1
     } else if kind < 5 {
         0
-    } else if kind < 12 {
+    } else if kind < LAST_KIND {
         2
     } else {
         3

@@ -10,6 +10,7 @@ pub use calls::read_call;
 pub use fields::field_at;
 pub use fields::put_field;
 pub use games::GameSize;
+pub use games::arity_of;
 pub use games::check_game;
 pub use games::game_reads_back;
 pub use games::game_writes_back;

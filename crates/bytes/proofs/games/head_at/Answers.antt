@@ -21,4 +21,4 @@ returns-then-kind-gt-LAST-KIND c = unknown-kind (c .args .bytes .now) (c .args .
 pub returns : need.returns
 returns c =
     kind-head (c .args .bytes .now) (c .args .at) (omega arith) (c .arity-of .result) (omega arith) (omega arith)
-    (c .arity-of .ensures .0 (omega arith) (omega arith)) (c .arity-of .ensures .1)
+    (c .arity-of .ensures .known (omega arith) (omega arith)) (c .arity-of .ensures .few)

@@ -1,0 +1,4 @@
+mod Values
+mod Rows
+mod Loading
+pub mod Callers
