@@ -37,7 +37,7 @@ const LAST_KIND: u8 = 12;
 const LEVELS: u32 = 33;
 
 // What stands at `i`, or 0 past the end.
-fn word_at(words: &[u32], i: usize) -> u32
+pub fn word_at(words: &[u32], i: usize) -> u32
     ensures { λ r. ⌜ r ≡ getD (now (words .entry)) i 0 ⌝ }
 {
     if i < words.len() { words[i] } else { 0 }
