@@ -5,6 +5,7 @@ mod options;
 pub use lines::Reply;
 pub use lines::ReplyDebug;
 pub use lines::ReplyPartialEq;
+pub use lines::line_call_means;
 pub use lines::reply_to;
 pub use options::Fault;
 pub use options::FaultDebug;

@@ -3,7 +3,7 @@ ghost use mathlib.Core.Path.{_≡_};
 ghost use lib.ListN.{length};
 ghost use Rattle.rules.specs.declared.Limits.{Limits};
 ghost use Rattle.rules.specs.Calls.{State, no-calls, answer, refused};
-ghost use Rattle.commands.specs.Lines.{end-of-line, Replies};
+ghost use Rattle.commands.specs.Lines.{end-of-line, line-call, Line-call-means, Replies};
 use rules::Call;
 use rules::Refusal;
 use rules::RefusalDebug;
@@ -46,6 +46,22 @@ fn refuse(call: Call) -> Refusal
     Refusal { number: 2, place }
 }
 
+// The call that a line stands for, by the bytes that it says or by its words.
+fn read_line(line: &[u8]) -> Result<Call, usize>
+    ensures { λ r. ⌜ r ≡ line-call (now (line .entry)) ⌝ }
+{
+    match text::read_bytes(line) {
+        Ok(raw) => {
+            let kept = raw.count.min(raw.bytes.len());
+            bytes::read_call(&raw.bytes[0..kept])
+        }
+        Err(i) => match text::read_call(line) {
+            Ok(call) => Ok(call),
+            Err(j) => Err(i.max(j)),
+        },
+    }
+}
+
 pub fn reply_to(line: &[u8]) -> Reply
     ensures { λ r. ⌜ ((l : Limits) (s : State) → Replies l s (now (line .entry)) r) ⌝ }
 {
@@ -54,8 +70,15 @@ pub fn reply_to(line: &[u8]) -> Reply
     if text::is_passed_over(letters) {
         return Reply::Nothing;
     }
-    match text::read_call(letters) {
+    match read_line(letters) {
         Ok(call) => Reply::Refused(refuse(call)),
         Err(place) => Reply::NoCall(place),
     }
+}
+
+// The call that a line stands for is so by the grammar, and so is the place where there is none.
+pub fn line_call_means() -> u8
+    ensures { λ _. ⌜ Line-call-means ⌝ }
+{
+    0
 }

@@ -53,9 +53,12 @@ Calls:
   back TABLE N                        the position after the first N moves
   can force TABLE PLAYER GAIN D       whether the player can force the gain
                                       within D moves, D up to 64
+  bytes HH HH ..                      the call that these bytes are, in
+                                      hexadecimal: any bytes may be said
 
 Blank lines, and lines that begin with #, are passed over. A line that is no
-call is answered 'refused 1 at N': the first N bytes of it were right.
+call is answered 'refused 1 at N': the first N bytes of it were right, or the
+first N of the bytes that it says.
 This version reads calls and does none of them yet: each is refused by 2.";
 
 fn show(out: &mut BufWriter<io::Stdout>, reply: Reply) -> io::Result<()> {

@@ -1,1 +1,6 @@
 mod Reading
+mod LoadSize
+mod LoadPlaced
+mod LoadRule
+mod LoadRules
+mod LoadGame

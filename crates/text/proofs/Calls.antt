@@ -1,6 +1,6 @@
 -- One call a line, and printed calls are read back.
 use mathlib.Core.Path.{_≡_, refl, sym, ap, subst, _∙_}
-use mathlib.Core.Bool.{true, false, cond}
+use mathlib.Core.Bool.{Bool, true, false, _&&_, cond}
 use mathlib.Core.List.{List, [], _∷_, _++_}
 use Prim.Native.Nat.{ℕ, _^_, _<_}
 use native.Mathlib.Omega.{arith}
@@ -50,34 +50,40 @@ says-same (ask f) p least c d xs h k =
     (subst (λ ys. Says (f (h .value)) 1 d ys) (sym (same .1)) (subst (λ v. Says (f v) 1 d (k .rest)) (sym (same .0)) (k .then)))
 
 -- the first two letters tell the form
-form-by : List ℕ → Form
+pub form-by : List ℕ → Form
 form-by xs =
     cond (eqb (getD xs 0 0) 115) (cond (eqb (getD xs 1 0) 105) sit-form see-form)
     (cond (eqb (getD xs 0 0) 112) play-form (cond (eqb (getD xs 0 0) 116) ticks-form
     (cond (eqb (getD xs 0 0) 109) may-form (cond (eqb (getD xs 0 0) 98) back-form force-form))))
 
+-- and whether the line says bytes
+unfoldable pub says-bytes : List ℕ → Bool
+says-bytes xs = eqb (getD xs 0 0) 98 && eqb (getD xs 1 0) 121
+
 -- each call's first word tells its form
 first-word :
     (c : Call) →
-    (w : List ℕ) × (ps : List Piece) × (pieces c ≡ word w ∷ ps) × ((xs : List ℕ) → starts blank (w ++ xs) ≡ false) × ((xs : List ℕ) → form-by (w ++ xs) ≡ form-of c)
-unfolding pieces form-by
-first-word (Sit n) = (_, _, refl, λ xs. refl, λ xs. refl)
-first-word (Play t m v) = (_, _, refl, λ xs. refl, λ xs. refl)
-first-word (Ticks n) = (_, _, refl, λ xs. refl, λ xs. refl)
-first-word (See t) = (_, _, refl, λ xs. refl, λ xs. refl)
-first-word (May t) = (_, _, refl, λ xs. refl, λ xs. refl)
-first-word (Back t n) = (_, _, refl, λ xs. refl, λ xs. refl)
-first-word (CanForce t m k d) = (_, _, refl, λ xs. refl, λ xs. refl)
+    (w : List ℕ) × (ps : List Piece) × (pieces c ≡ word w ∷ ps) × ((xs : List ℕ) → starts blank (w ++ xs) ≡ false)
+    × ((xs : List ℕ) → form-by (w ++ xs) ≡ form-of c) × ((xs : List ℕ) → says-bytes (w ++ xs) ≡ false)
+unfolding pieces form-by says-bytes
+first-word (Sit n) = (_, _, refl, λ xs. refl, λ xs. refl, λ xs. refl)
+first-word (Play t m v) = (_, _, refl, λ xs. refl, λ xs. refl, λ xs. refl)
+first-word (Ticks n) = (_, _, refl, λ xs. refl, λ xs. refl, λ xs. refl)
+first-word (See t) = (_, _, refl, λ xs. refl, λ xs. refl, λ xs. refl)
+first-word (May t) = (_, _, refl, λ xs. refl, λ xs. refl, λ xs. refl)
+first-word (Back t n) = (_, _, refl, λ xs. refl, λ xs. refl, λ xs. refl)
+first-word (CanForce t m k d) = (_, _, refl, λ xs. refl, λ xs. refl, λ xs. refl)
 
 -- what comes after the white space in front tells the form
-begun :
+pub begun :
     (c : Call) (line : List ℕ) → Is-line c line →
     (gap : List ℕ) × (xs : List ℕ) × (line ≡ gap ++ xs) × (all blank gap ≡ true) × (starts blank xs ≡ false) × (form-by xs ≡ form-of c)
+    × (says-bytes xs ≡ false)
 begun c line h =
     let f = first-word c in
     let u = unwrite (subst (λ ps. Written 0 ps line) (f .2) h) in
     let same : f .0 ++ u .2 ≡ u .1 ++ u .2 = ap (λ ds. ds ++ u .2) (sym (u .6)) in
-    (u .0, f .0 ++ u .2, u .3 ∙ ap (λ xs. u .0 ++ xs) (sym same), u .5, f .3 (u .2), f .4 (u .2))
+    (u .0, f .0 ++ u .2, u .3 ∙ ap (λ xs. u .0 ++ xs) (sym same), u .5, f .3 (u .2), f .4 (u .2), f .5 (u .2))
 
 -- no line is the line of two calls
 pub one-call : One-call-a-line

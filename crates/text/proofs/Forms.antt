@@ -18,17 +18,17 @@ use Rattle.text.proofs.Splits.{starts, starts-alike, take-alike, all-append, a
 use Rattle.text.proofs.Scans.{Gap, past-splits}
 use Rattle.text.proofs.Pieces.{ends-before, ends-alike, spelled-same, blank-not-digit, Want, the-word, any-number, Spelled, Solid, spelled-solid, some-spelling, read-want, Got, Stopped, Want-read, want-read}
 
--- the longest front of bs that some call begins with, where L c is how the call c may be written; it ends at place n
-pub record Stuck (L : Call → List ℕ → Type 0) (bs : List ℕ) (i n : ℕ) : Type 0 where
+-- the longest front of bs that some line begins with, where L c is how c may be written; it ends at place n
+pub record Stuck {X : Type 0} (L : X → List ℕ → Type 0) (bs : List ℕ) (i n : ℕ) : Type 0 where
   pub front : List ℕ
   pub left : List ℕ
   pub cut : bs ≡ front ++ left
   pub place : n ≡ i + length front
-  pub live : (c : Call) × (rest : List ℕ) × L c (front ++ rest)
-  pub dead : (c : Call) (xs : List ℕ) → take 1 xs ≡ take 1 left → L c (front ++ xs) → ⊥
+  pub live : (c : X) × (rest : List ℕ) × L c (front ++ rest)
+  pub dead : (c : X) (xs : List ℕ) → take 1 xs ≡ take 1 left → L c (front ++ xs) → ⊥
 
 -- what an answer says of a line that is bs from place i on
-abbrev pub Good : (Call → List ℕ → Type 0) → List ℕ → ℕ → Result Call ℕ → Type 0
+abbrev pub Good : {X : Type 0} → (X → List ℕ → Type 0) → List ℕ → ℕ → Result X ℕ → Type 0
 Good L bs i (Ok c) = L c bs
 Good L bs i (Err n) = Stuck L bs i n
 
@@ -46,13 +46,13 @@ pub record Begins (w : Want) (least : ℕ) (L : ℕ → List ℕ → Type 0) (xs
 
 -- reading one word or number, and the rest by a reader that is good
 module _
-    (w : Want) (solid : Solid w) (L : ℕ → Call → List ℕ → Type 0)
-    (stops : (v : ℕ) (c : Call) (rest : List ℕ) → L v c rest → starts digit rest ≡ false)
-    (some : (v : ℕ) → (c : Call) × (rest : List ℕ) × L v c rest)
+    {X : Type 0} (w : Want) (solid : Solid w) (L : ℕ → X → List ℕ → Type 0)
+    (stops : (v : ℕ) (c : X) (rest : List ℕ) → L v c rest → starts digit rest ≡ false)
+    (some : (v : ℕ) → (c : X) × (rest : List ℕ) × L v c rest)
     (least : ℕ) (few : least ≤ 1)
   where
     -- the lines that are read here
-    abbrev Lines : Call → List ℕ → Type 0
+    abbrev Lines : X → List ℕ → Type 0
     Lines c xs = Begins w least (λ v rest. L v c rest) xs
 
     -- there is not enough white space
@@ -122,7 +122,7 @@ module _
 
     -- it is, and the rest is read
     go-further :
-        (bs : List ℕ) (i j v k : ℕ) (g : Gap bs i j) → least ≤ length (g .gap) → (p : Got w (g .left) j v k) (r : Result Call ℕ) → Good (L v) (p .left) k r →
+        (bs : List ℕ) (i j v k : ℕ) (g : Gap bs i j) → least ≤ length (g .gap) → (p : Got w (g .left) j v k) (r : Result X ℕ) → Good (L v) (p .left) k r →
         Good Lines bs i r
     go-further bs i j v k g enough p (Ok c) h = record {
       value = v;
@@ -173,7 +173,7 @@ module _
     abbrev want-at : List ℕ → ℕ → Result (ℕ × ℕ) ℕ
     want-at line i = and-then (gap-at least line i) (λ j. read-want w (drop j line) j)
 
-    module _ (line : List ℕ) (next : ℕ → ℕ → Result Call ℕ) (good : (v j : ℕ) → j ≤ length line → Good (L v) (drop j line) j (next v j)) where
+    module _ (line : List ℕ) (next : ℕ → ℕ → Result X ℕ) (good : (v j : ℕ) → j ≤ length line → Good (L v) (drop j line) j (next v j)) where
       -- what follows the white space
       after-want :
           (i : ℕ) → i ≤ length line → (g : Gap (drop i line) i (past (drop i line) i)) → least ≤ length (g .gap) → (r : Result (ℕ × ℕ) ℕ) → Want-read w (g .left) (past (drop i line) i) r →
@@ -281,8 +281,8 @@ end-good d least line i h =
     })
 
 -- a word read with the number 0, which is then let go, is a word read
-word-alone :
-    (gap : Result ℕ ℕ) (letters : ℕ → Result ℕ ℕ) (next : ℕ → Result Call ℕ) →
+pub word-alone :
+    {X : Type 0} (gap : Result ℕ ℕ) (letters : ℕ → Result ℕ ℕ) (next : ℕ → Result X ℕ) →
     and-then (and-then gap (λ j. and-then (letters j) (λ k. Ok (0, k)))) (λ (n : ℕ × ℕ). next (n .1)) ≡ and-then (and-then gap letters) next
 word-alone (Ok j) letters next = by-letters (letters j)
   where

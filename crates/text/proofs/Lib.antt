@@ -3,7 +3,11 @@ mod Splits
 mod Scans
 mod Pieces
 mod Forms
-mod Lines
+pub mod Lines
 mod Calls
 mod Passing
 mod Numbers
+mod Hex
+mod Pairs
+pub mod RawLines
+mod Filling

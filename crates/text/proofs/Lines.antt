@@ -12,7 +12,7 @@ use Rattle.std.specs.declared.result.Result.{Result}
 use Rattle.std.specs.declared.result.Result.the-variants.{Ok, Err}
 use Rattle.rules.specs.declared.Call.{Call}
 use Rattle.rules.specs.declared.Call.the-variants.{Sit, Play, Ticks, See, May, Back, CanForce}
-use Rattle.text.specs.Grammar.{Piece, word, number, pieces, blank, all, Spells, Written, end, piece, Is-line, Reads}
+use Rattle.text.specs.Grammar.{Piece, word, number, pieces, blank, all, Spells, Written, end, piece, Is-line, Reads-as, Reads}
 use Rattle.text.specs.Reader.{Form, done, the, ask, fit, sit-form, play-form, ticks-form, see-form, may-form, back-form, force-form, better, best-of, call-of}
 use Rattle.text.proofs.Forms.{Good, Says, Proper, fit-good, better-good}
 
@@ -168,9 +168,9 @@ said-line c xs =
     (says-line back-form (λ t n. refl) c xs)) (says-line force-form (λ t m k d. refl) c xs)
 
 -- the same lines, said otherwise
-good-like :
-    (L M : Call → List ℕ → Type 0) → ((c : Call) (xs : List ℕ) → L c xs → M c xs) → ((c : Call) (xs : List ℕ) → M c xs → L c xs) →
-    (bs : List ℕ) (i : ℕ) (r : Result Call ℕ) → Good L bs i r → Good M bs i r
+pub good-like :
+    {X : Type 0} (L M : X → List ℕ → Type 0) → ((c : X) (xs : List ℕ) → L c xs → M c xs) → ((c : X) (xs : List ℕ) → M c xs → L c xs) →
+    (bs : List ℕ) (i : ℕ) (r : Result X ℕ) → Good L bs i r → Good M bs i r
 good-like L M to from bs i (Ok c) h = to c bs h
 good-like L M to from bs i (Err n) h = record {
   front = h .front;
@@ -203,21 +203,21 @@ longer-front (x ∷ front) left (suc m) l u =
     (r .0, ap (λ xs. x ∷ xs) (r .1), r .2)
 
 -- and in the terms of the grammar
-good-reads : (line : List ℕ) (r : Result Call ℕ) → Good Is-line line 0 r → Reads line r
-good-reads line (Ok c) h = h
-good-reads line (Err n) h =
+pub good-reads : {X : Type 0} (L : X → List ℕ → Type 0) (line : List ℕ) (r : Result X ℕ) → Good L line 0 r → Reads-as L line r
+good-reads L line (Ok c) h = h
+good-reads L line (Err n) h =
     let size : length line ≡ length (h .front) + length (h .left) = ap length (h .cut) ∙ length-append (h .front) (h .left) in
     let front : take n line ≡ h .front = ap (take n) (h .cut) ∙ take-at (h .front) (h .left) n (omega (arith, h .place)) in (
-      λ c t. h .dead c (h .left) refl (subst (λ xs. Is-line c xs) (h .cut) t),
+      λ c t. h .dead c (h .left) refl (subst (λ xs. L c xs) (h .cut) t),
       omega (arith, h .place),
-      (h .live .0, h .live .1, subst (λ xs. Is-line (h .live .0) (xs ++ h .live .1)) (sym front) (h .live .2)),
+      (h .live .0, h .live .1, subst (λ xs. L (h .live .0) (xs ++ h .live .1)) (sym front) (h .live .2)),
       λ m l u t.
           let r = longer-front (h .front) (h .left) m (omega (arith, h .place)) (omega (arith, length-append (h .front) (h .left))) in
           let here : take m line ++ t .1 ≡ h .front ++ (r .0 ++ t .1) =
           ap (λ xs. xs ++ t .1) (ap (take m) (h .cut) ∙ r .1) ∙ append-assoc (h .front) (r .0) (t .1) in
-          h .dead (t .0) (r .0 ++ t .1) (r .2 (t .1)) (subst (λ xs. Is-line (t .0) xs) here (t .2)),
+          h .dead (t .0) (r .0 ++ t .1) (r .2 (t .1)) (subst (λ xs. L (t .0) xs) here (t .2)),
     )
 
 -- reading a line answers what the grammar says
 pub reads : (line : List ℕ) → Reads line (call-of line)
-reads line = good-reads line (call-of line) (call-good line)
+reads line = good-reads Is-line line (call-of line) (call-good line)

@@ -67,15 +67,21 @@ pub data Written : ℕ → List Piece → List ℕ → Type 0 where
 abbrev pub Is-line : Call → List ℕ → Type 0
 Is-line c line = Written 0 (pieces c) line
 
--- the line of some call begins so
-abbrev pub Front : List ℕ → Type 0
-Front s = (c : Call) × (rest : List ℕ) × Is-line c (s ++ rest)
+-- reading lines of one sort, L x being how x may be written
+module _ {X : Type 0} (L : X → List ℕ → Type 0) where
+  -- some line of the sort begins so
+  abbrev pub Front-of : List ℕ → Type 0
+  Front-of s = (x : X) × (rest : List ℕ) × L x (s ++ rest)
 
--- what reading a line answers: the call whose line it is; or, where it is no call's, the length of its longest front that the line of some call begins with
+  -- what reading answers: what is written in the line; or, where that is nothing, the length of its longest front that some line of the sort begins with
+  abbrev pub Reads-as : List ℕ → Result X ℕ → Type 0
+  Reads-as line (Ok x) = L x line
+  Reads-as line (Err n) =
+      ((x : X) → L x line → ⊥) × (n ≤ length line) × Front-of (take n line) × ((m : ℕ) → n < m → m ≤ length line → Front-of (take m line) → ⊥)
+
+-- what reading the line of a call answers
 abbrev pub Reads : List ℕ → Result Call ℕ → Type 0
-Reads line (Ok c) = Is-line c line
-Reads line (Err n) =
-    ((c : Call) → Is-line c line → ⊥) × (n ≤ length line) × Front (take n line) × ((m : ℕ) → n < m → m ≤ length line → Front (take m line) → ⊥)
+Reads = Reads-as Is-line
 
 -- a line of white space only, or whose first letter is '#', is passed over
 unfoldable pub passed-over : List ℕ → Bool

@@ -1,3 +1,5 @@
 pub mod Grammar
 pub mod Reader
+pub mod Raw
+pub mod RawReader
 pub mod Theorems

@@ -23,9 +23,14 @@ ghost use Rattle.text.specs.Reader.{
   better,
   call-of,
 };
-ghost use Rattle.text.specs.Theorems.{One-call-a-line, Printed-reads-back};
+ghost use Rattle.text.specs.Theorems.{One-call-a-line, Printed-reads-back, One-bytes-a-line, No-line-is-both, Longest-front-of-both};
 use rules::Call;
 use rules::Move;
+
+mod raw;
+
+pub use raw::Raw;
+pub use raw::read_bytes;
 
 // The largest number in a line.
 const TOP: u64 = 4294967295;
@@ -276,6 +281,27 @@ pub fn one_call_a_line() -> u8
 // What is printed of a call is its line, and is read back as that call.
 pub fn printed_reads_back() -> u8
     ensures { λ _. ⌜ Printed-reads-back ⌝ }
+{
+    0
+}
+
+// No line says two lists of bytes.
+pub fn one_bytes_a_line() -> u8
+    ensures { λ _. ⌜ One-bytes-a-line ⌝ }
+{
+    0
+}
+
+// No line is the line of a call and says bytes.
+pub fn no_line_is_both() -> u8
+    ensures { λ _. ⌜ No-line-is-both ⌝ }
+{
+    0
+}
+
+// Where a line is of neither sort, the larger place is the length of the longest front that a line of either sort begins with.
+pub fn longest_front_of_both() -> u8
+    ensures { λ _. ⌜ Longest-front-of-both ⌝ }
 {
     0
 }

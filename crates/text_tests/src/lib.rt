@@ -124,6 +124,42 @@ mod tests {
         check_eq(reply_to(b"sit 0 \n"), cannot)
     }
 
+    #[test]
+    fn lines_of_bytes() -> Result<(), Fail> {
+        let cannot = Reply::Refused(Refusal {
+            number: 2,
+            place: 0,
+        });
+        let too_deep = Reply::Refused(Refusal {
+            number: 2,
+            place: 3,
+        });
+        check_eq(reply_to(b"bytes 03 00 00 00 00"), cannot)?;
+        check_eq(
+            reply_to(b" bytes\t06 00 00 00 00 00 00 00 00 00 00 00 00 41 00 00 00 \r\n"),
+            too_deep,
+        )?;
+        check_eq(reply_to(b"bytes"), Reply::NoCall(0))?;
+        check_eq(reply_to(b"bytes 07"), Reply::NoCall(0))?;
+        check_eq(reply_to(b"bytes  FF"), Reply::NoCall(0))?;
+        check_eq(reply_to(b"bytes 03 00"), Reply::NoCall(2))?;
+        check_eq(reply_to(b"bytes 00 01 00 00 00 09"), Reply::NoCall(5))?;
+        check_eq(reply_to(b"bytes 0"), Reply::NoCall(7))?;
+        check_eq(reply_to(b"bytes 0g"), Reply::NoCall(7))?;
+        check_eq(reply_to(b"bytes 000"), Reply::NoCall(8))?;
+        check_eq(reply_to(b"byte"), Reply::NoCall(4))
+    }
+
+    // One byte more than any call has, and then more than are kept.
+    #[test]
+    fn long_lines_of_bytes() -> Result<(), Fail> {
+        let long = b"bytes 01 00 00 00 00 00 00 00 00 00 00 00 00 00 00 00 00 00 00 00 00 aF";
+        check_eq(reply_to(long), Reply::NoCall(21))?;
+        let longer =
+            b"bytes 01 00 00 00 00 00 00 00 00 00 00 00 00 00 00 00 00 00 00 00 00 00 00 Fe";
+        check_eq(reply_to(longer), Reply::NoCall(21))
+    }
+
     // What the words of a line ask for.
     fn asked(heap: Global, line: &str) -> Result<Result<Request, Fault>, AllocError> {
         let mut words: Vec<String> = Vec::new(heap);
