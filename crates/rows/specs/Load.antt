@@ -60,6 +60,7 @@ effects-words (e ∷ es) = 2 + 4 * expr-parts (e .cell) + 4 * expr-parts (e .val
 abbrev pub rule-words : Rule → ℕ
 rule-words u = 4 * expr-parts (u .guard) + effects-words (u .effects)
 
+-- how many words rules take, besides the five of each
 unfoldable pub rules-words : List Rule → ℕ
 rules-words [] = 0
 rules-words (u ∷ us) = rule-words u + rules-words us
@@ -74,6 +75,7 @@ pub record Placed (A : Type 0) (means : List ℕ → A) (a : A) (words : ℕ) (b
   -- it stays what it is whatever is written elsewhere
   pub stays : (zs : List ℕ) → Same-between table (table + wide) zs ys → Same-between at (e .next) zs ys → means zs ≡ a
 
+-- it was placed, and not refused
 abbrev pub Places : (A : Type 0) → (List ℕ → A) → A → ℕ → List ℕ → List ℕ → ℕ → ℕ → ℕ → List ℕ → List ℕ → Option End → Type 0
 Places A means a words bs q table wide at xs ys r = Cases r ⊥ (λ e. Placed A means a words bs q table wide at xs ys e)
 
@@ -101,20 +103,23 @@ pub record Inside (bytes room at : ℕ) (e : End) : Type 0 where
   pub later : at ≤ e .next
   pub free : e .next ≤ room
 
+-- if there is an end, it is inside
 abbrev pub Ends-inside : ℕ → ℕ → ℕ → Option End → Type 0
 Ends-inside bytes room at r = Cases r (Unit {0}) (Inside bytes room at)
 
--- what loading n expressions from bs leaves, whatever follows them
+-- if n expressions are there from a byte on, they are placed
 abbrev pub Places-exprs : List ℕ → ℕ → ℕ → List ℕ → List ℕ → ℕ → ℕ → Option End → Type 0
 Places-exprs bs from n xs ys table at r =
     (es : List Expr) (q : List ℕ) → Exprs-there (drop from bs) n at (length xs) es q
     → Places (List Expr) (λ m. exprs-at m table n) es (4 * exprs-parts es) bs q table n at xs ys r
 
+-- if a rule is there, it is placed
 abbrev pub Places-rule : List ℕ → ℕ → List ℕ → List ℕ → ℕ → ℕ → Option End → Type 0
 Places-rule bs from xs ys row at r =
     (u : Rule) (q : List ℕ) → Rule-there (drop from bs) at (length xs) u q
     → Places Rule (λ m. rule-at-word m row) u (rule-words u) bs q row 5 at xs ys r
 
+-- if n rules are there, they are placed
 abbrev pub Places-rules : List ℕ → ℕ → ℕ → List ℕ → List ℕ → ℕ → ℕ → Option End → Type 0
 Places-rules bs from n xs ys row at r =
     (us : List Rule) (q : List ℕ) → Rules-there (drop from bs) n at (length xs) us q
