@@ -1,14 +1,14 @@
 -- What a line stands for, by what it says and by its words.
-use mathlib.Core.Path.{_≡_, refl, sym, ap, subst, _∙_}
+use mathlib.Core.Path.{_≡_, refl, sym, ap, _∙_}
 use mathlib.Core.Bool.{cond}
 use mathlib.Core.List.{List, [], _∷_}
 use mathlib.Core.Logic.{inl, inr, ⊎-elim}
-use Prim.Native.Nat.{ℕ, zero, suc, _+_, _*_, _≤_, _<_, min, max}
+use Prim.Native.Nat.{ℕ, suc, _+_, _*_, _≤_, min}
 use native.Mathlib.Omega.{arith}
 use lib.Dec.{ltb, eqb}
 use lib.ListN.{length, take}
 use Rattle.std.proofs.shelf.Lists.{take-all, take-take, length-take-le}
-use Rattle.std.proofs.shelf.Tests.{cases-lt, cond-both, cond-false, ne-eqb}
+use Rattle.std.proofs.shelf.Tests.{cases-lt, cond-false, ne-eqb}
 use Rattle.std.proofs.shelf.Ways.{tells}
 use Rattle.std.specs.declared.result.Result.{Result}
 use Rattle.std.specs.declared.result.Result.the-variants.{Ok, Err}
@@ -16,7 +16,7 @@ use Rattle.rules.specs.declared.Call.{Call}
 use Rattle.bytes.specs.Calls.{field-count, parse-call, call-of as kind-call}
 use Rattle.bytes.specs.Fields.{fields-at}
 use Rattle.text.specs.Grammar.{Reads}
-use Rattle.text.specs.Raw.{Raw-reads, Keeps, Kept}
+use Rattle.text.specs.Raw.{Raw-reads, Kept}
 use Rattle.text.specs.Reader.{call-of}
 use Rattle.text.specs.RawReader.{raw-of}
 use Rattle.text.specs.declared.raw.Raw.{Raw}

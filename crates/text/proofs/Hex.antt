@@ -1,12 +1,11 @@
 -- Hexadecimal digits, and what a byte is after what was read so far.
-use mathlib.Core.Path.{_≡_, refl, sym, ap, _∙_}
-use mathlib.Core.Bool.{true, false, cond}
-use Prim.Native.Nat.{ℕ, _+_, _*_, _-_, _≤_, _<_}
+use mathlib.Core.Path.{_≡_, sym, ap, _∙_}
+use mathlib.Core.Bool.{true}
+use Prim.Native.Nat.{ℕ, _+_, _-_, _≤_}
 use native.Mathlib.Omega.{arith}
 use Rattle.std.proofs.shelf.Ways.{tells}
-use Rattle.std.specs.declared.option.Option.{Option}
 use Rattle.std.specs.declared.option.Option.the-variants.{Some, None}
-use Rattle.text.specs.Grammar.{blank, digit}
+use Rattle.text.specs.Grammar.{blank}
 use Rattle.text.specs.Raw.{hex-value}
 
 pub hex-decimal : (b : ℕ) → 48 ≤ b → b ≤ 57 → Some (b - 48) ≡ hex-value b

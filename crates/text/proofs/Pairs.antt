@@ -1,11 +1,11 @@
 -- Pairs of digits, read byte by byte: after what was read there is always a way to go on, and where reading stops there is none with the next byte.
 use mathlib.Core.Path.{_≡_, refl, sym, ap, subst, _∙_}
-use mathlib.Core.Bool.{true, false, cond}
+use mathlib.Core.Bool.{true, false}
 use mathlib.Core.List.{List, [], _∷_, _++_}
 use mathlib.Core.Logic.{_⊎_, inl, inr, ⊎-elim}
 use Prim.Native.Nat.{ℕ, _+_, _*_, _≤_}
 use native.Mathlib.Omega.{arith}
-use lib.ListN.{length, take}
+use lib.ListN.{take}
 use Rattle.std.proofs.shelf.Tests.{and-parts, and-from, both-ways, cond-both}
 use Rattle.std.specs.declared.option.Option.{Option}
 use Rattle.std.specs.declared.option.Option.the-variants.{Some, None}
@@ -166,20 +166,20 @@ module _ (b : ℕ) (bs : List ℕ) (i : ℕ) (good : (a : Awaits) → Good (Said
   abbrev left : Awaits → Result (List ℕ) ℕ
   left a = pairs-at a bs (i + 1)
 
-  blank-good : (a : Awaits) (least : ℕ) → least ≤ 1 → blank b ≡ true → Good (Pairs least) (b ∷ bs) i (left Digit)
-  blank-good a least l e =
+  blank-good : (least : ℕ) → least ≤ 1 → blank b ≡ true → Good (Pairs least) (b ∷ bs) i (left Digit)
+  blank-good least l e =
       step-good (Pairs least) (Pairs 0) b (λ cs xs. blank-in least b l e) (λ cs xs. blank-out least b cs xs e) bs i (left Digit) (good Digit)
 
   gap-good : Good (Said Gap) (b ∷ bs) i (after (step-of Gap b) left i)
   unfolding step-of
   gap-good =
-      cond-both (blank b) Blank Wrong (λ s. Good (Said Gap) (b ∷ bs) i (after s left i)) (λ e. blank-good Gap 1 (omega arith) e)
+      cond-both (blank b) Blank Wrong (λ s. Good (Said Gap) (b ∷ bs) i (after s left i)) (λ e. blank-good 1 (omega arith) e)
       (λ e. stop-at Gap b bs i (λ cs xs t. ⊎-elim (λ p. both-ways (blank b) e (p .0)) (λ p. omega (arith, p .0)) (begins t b xs refl)))
 
   digit-good : Good (Said Digit) (b ∷ bs) i (after (step-of Digit b) left i)
   unfolding step-of
   digit-good =
-      cond-both (blank b) Blank (by-digit (hex-value b) First) (λ s. Good (Said Digit) (b ∷ bs) i (after s left i)) (λ e. blank-good Digit 0 (omega arith) e)
+      cond-both (blank b) Blank (by-digit (hex-value b) First) (λ s. Good (Said Digit) (b ∷ bs) i (after s left i)) (λ e. blank-good 0 (omega arith) e)
       (λ e. by-value e (hex-value b) refl)
     where
       by-value : blank b ≡ false → (o : Option ℕ) → hex-value b ≡ o → Good (Said Digit) (b ∷ bs) i (after (by-digit o First) left i)

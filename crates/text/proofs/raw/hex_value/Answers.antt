@@ -1,5 +1,3 @@
-use mathlib.Core.Path.{sym}
-use mathlib.Core.Logic.{⊎-elim}
 use native.Mathlib.Omega.{arith}
 use Rattle.text.proofs.Hex.{hex-decimal, hex-lower, hex-upper, hex-none}
 use Rattle.text.proofs.raw.hex_value.Needs as need

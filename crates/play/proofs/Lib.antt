@@ -1,0 +1,4 @@
+mod Finding
+mod Steps
+mod Words
+mod Writes
