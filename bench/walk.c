@@ -1,12 +1,12 @@
-/* A plain tree walk of the same rows, to compare with: reads an expression in byte form, lays it out as rows of four words,
-   and works it out for every board of noughts and crosses. */
+/* A plain tree walk of the same rows, to compare with: reads a game in byte form, lays its expressions out as rows of four words,
+   and works out for every board of noughts and crosses whether the game is over. */
 #include <stdint.h>
 #include <stdio.h>
 #include <stdlib.h>
 #include <time.h>
 
 #define BOARDS 19683
-static uint32_t rows[1024];
+static uint32_t rows[8192];
 static uint64_t parts;
 
 static uint32_t load(const uint8_t **p, uint32_t *next) {
@@ -23,6 +23,18 @@ static uint32_t load(const uint8_t **p, uint32_t *next) {
     for (int j = 0; j < 3; j++) rows[root + 1 + j] = at[j];
     *next += 4;
     return root;
+}
+
+/* Passes over the rules, and loads the expression that says when the game is over. */
+static uint32_t load_over(const uint8_t *p) {
+    uint32_t next = 0, cells = p[1] + 256u * p[2];
+    p += 3 + 2 * cells;
+    for (int rules = *p++; rules > 0; rules--) {
+        p += 4;
+        load(&p, &next);
+        for (int n = 2 * *p++; n > 0; n--) load(&p, &next);
+    }
+    return load(&p, &next);
 }
 
 static uint32_t cap(uint64_t n) { return n < 65536 ? (uint32_t)n : 65535; }
@@ -83,11 +95,10 @@ static uint32_t rows_of_three(uint32_t root, int counting) {
 }
 
 int main(int argc, char **argv) {
-    uint8_t bytes[1024];
-    FILE *f = fopen("noughts.over", "rb");
+    uint8_t bytes[4096];
+    FILE *f = fopen("noughts.bytes", "rb");
     if (!f || fread(bytes, 1, sizeof bytes, f) == 0) return 1;
-    const uint8_t *p = bytes;
-    uint32_t next = 0, root = load(&p, &next);
+    uint32_t root = load_over(bytes);
     uint32_t count = rows_of_three(root, 1);
     int turns = argc > 1 ? atoi(argv[1]) : 9;
     uint64_t best = UINT64_MAX;

@@ -1,6 +1,6 @@
 -- How the next legal move is found, and whether there is any.
 use mathlib.Core.Path.{_≡_, refl, sym, ap, _∙_}
-use mathlib.Core.Bool.{Bool, true, false, not, _||_}
+use mathlib.Core.Bool.{true, false, not}
 use mathlib.Core.List.{List, [], _∷_, _++_}
 use Prim.Native.Nat.{ℕ, _+_, _≤_, _<_}
 use native.Mathlib.Omega.{arith}
@@ -10,7 +10,7 @@ use Rattle.std.proofs.shelf.Tests.{ne-eqb}
 use Rattle.std.specs.declared.option.Option.{Option}
 use Rattle.std.specs.declared.option.Option.the-variants.{Some, None}
 use Rattle.rules.specs.declared.Move.{Move}
-use Rattle.rules.specs.Rules.{Position, Game, turn, eval, rule-at, is-legal}
+use Rattle.rules.specs.Rules.{Position, Game, turn, eval, is-legal}
 use Rattle.rules.specs.Play.{legal-moves, is-over}
 use Rattle.eval.specs.Memory.{expr-at}
 use Rattle.rows.specs.Layout.{game-at}
@@ -18,7 +18,7 @@ use Rattle.rows.specs.Reading.{Is-rule}
 use Rattle.rows.specs.declared.read.RuleRow.{RuleRow}
 use Rattle.play.specs.Cursor.{move, seconds-from, firsts-from, rules-from, moves-from, after, Begins, Finds}
 use Rattle.play.proofs.Words.{first-bound-is, second-bound-is, by-guard}
-use Rattle.play.proofs.Steps.{second-more, second-none, first-more, first-none, rule-more, rule-none, from-first, starts-with-all}
+use Rattle.play.proofs.Steps.{second-more, second-none, first-more, first-none, rule-more, from-first, starts-with-all}
 
 -- what is found in a list is found in one that is equal
 pub begins-like : {g : Game} {p : Position} {v : Move} {vs ws : List Move} → vs ≡ ws → Begins g p ws v → Begins g p vs v

@@ -1,17 +1,16 @@
 -- The legal moves from a given one on, step by step.
 use mathlib.Core.Path.{_≡_, refl, sym, ap, _∙_}
 use mathlib.Core.Logic.{inl, inr}
-use mathlib.Core.Bool.{Bool, true, false, not, _||_, cond}
-use mathlib.Core.List.{List, [], _∷_, _++_, append-assoc, append-nil}
+use mathlib.Core.Bool.{false}
+use mathlib.Core.List.{[], _++_, append-assoc, append-nil}
 use Prim.Native.Nat.{ℕ, zero, suc, _+_, _-_, _≤_, _<_}
 use native.Mathlib.Omega.{arith}
-use lib.Dec.{ltb, eqb}
-use lib.ListN.{length, getD, drop}
+use lib.ListN.{length, drop}
 use Rattle.std.proofs.shelf.Lists.{getD-past, drop-all, drop-more}
 use Rattle.std.proofs.shelf.Tests.{cases-lt}
 use Rattle.std.proofs.shelf.Ways.{tells}
 use Rattle.rules.specs.declared.Move.{Move}
-use Rattle.rules.specs.Rules.{Position, Rule, Game, no-rule, rule-at, is-legal}
+use Rattle.rules.specs.Rules.{Position, Game, no-rule, rule-at, is-legal}
 use Rattle.rules.specs.Play.{moves-by-second, moves-by-first, moves-by-rule, legal-moves}
 use Rattle.play.specs.Cursor.{move, if-legal, next-seconds, seconds-from, next-firsts, firsts-from, rules-from, moves-from, Starts-with-all}
 

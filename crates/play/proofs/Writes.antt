@@ -1,7 +1,6 @@
 -- The list of legal moves, written move by move.
-use mathlib.Core.Path.{_≡_, refl, sym, ap, _∙_}
+use mathlib.Core.Path.{_≡_, sym, ap, _∙_}
 use mathlib.Core.Logic.{inl, inr}
-use mathlib.Core.Bool.{cond}
 use mathlib.Core.List.{List, [], _∷_, _++_}
 use Prim.Native.Nat.{ℕ, _+_, _*_, _≤_, _<_}
 use native.Mathlib.Omega.{arith}
@@ -16,7 +15,7 @@ use Rattle.bytes.specs.Numbers.{number-bytes}
 use Rattle.bytes.specs.Fields.{fields-bytes, written}
 use Rattle.bytes.proofs.FieldLists.{length-fields-bytes}
 use Rattle.bytes.proofs.Writing.{written-nothing, length-written}
-use Rattle.answers.specs.Answers.{moves-fields, answer-kind, answer-fields, answer-bytes}
+use Rattle.answers.specs.Answers.{moves-fields, answer-fields, answer-bytes}
 use Rattle.answers.specs.Writing.{room, list-head, moves-bytes, move-bytes}
 use Rattle.answers.proofs.AnswerBytes.{length-moves}
 use Rattle.answers.proofs.WritingLemmas.{no-room, room-for, one-written, list-in-parts}
@@ -64,12 +63,16 @@ next-taken vs k v rest e =
     let same : getD vs k v ≡ v = cc in
     take-more vs k v (there vs k v rest e) ∙ ap (λ u. take k vs ++ (u ∷ [])) same
 
+-- before the first move, with room for the head and without
+pub none-written : (old : List ℕ) (vs : List Move) → 5 ≤ length old → old ≡ written 5 (moves-bytes (take 0 vs)) old
+unfolding moves-bytes moves-fields fields-bytes
+none-written old vs h = sym (written-nothing 5 old h)
+
+pub no-room-for-head : (old : List ℕ) (vs : List Move) → length old < 5 → None ≡ room 0 (answer-bytes (listed vs)) old
+no-room-for-head old vs h = no-room 0 (answer-bytes (listed vs)) old (omega (arith, length-list vs))
+
 -- the list vs, of which k moves are written over old, and those from there on are left
 module _ (old : List ℕ) (vs : List Move) (k : ℕ) where
-  pub none-written : 5 ≤ length old → old ≡ written 5 (moves-bytes (take 0 vs)) old
-  unfolding moves-bytes moves-fields fields-bytes
-  none-written h = sym (written-nothing 5 old h)
-
   pub one-more-written : {mid new : List ℕ} (v : Move) {rest left : List Move} {n : ℕ} → mid ≡ written 5 (moves-bytes (take k vs)) old
       → left ≡ drop k vs → left ≡ v ∷ rest → Some n ≡ room (5 + 12 * k) (move-bytes v) mid → new ≡ written (5 + 12 * k) (move-bytes v) mid
       → (5 + 12 * (k + 1) ≤ length old) × (k + 1 ≤ length vs) × (new ≡ written 5 (moves-bytes (take (k + 1) vs)) old) × (rest ≡ drop (k + 1) vs)
@@ -94,9 +97,6 @@ module _ (old : List ℕ) (vs : List Move) (k : ℕ) where
       let h = lacks-room (5 + 12 * k) v mid lacks in
       let t = there vs k v rest (sym left ∙ first) in
       no-room 0 (answer-bytes (listed vs)) old (omega (arith, length-list vs))
-
-  pub no-room-for-head : length old < 5 → None ≡ room 0 (answer-bytes (listed vs)) old
-  no-room-for-head h = no-room 0 (answer-bytes (listed vs)) old (omega (arith, length-list vs))
 
   -- no move is left
   all-taken : {left : List Move} → left ≡ drop k vs → left ≡ [] → length vs ≤ k

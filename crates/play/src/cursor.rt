@@ -2,12 +2,11 @@
 ghost use mathlib.Core.Path.{_≡_};
 ghost use mathlib.Core.List.{_++_};
 ghost use Prim.Native.Nat.{_+_, _<_};
-ghost use lib.ListN.{length};
 ghost use Rattle.rules.specs.Rules as meaning;
 ghost use Rattle.rules.specs.Play as meaning-of-play;
 ghost use Rattle.rows.specs.Layout.{game-at};
 ghost use Rattle.rows.specs.Reading.{Is-rule};
-ghost use Rattle.play.specs.Cursor.{move, seconds-from, firsts-from, rules-from, moves-from, Finds, Starts-with-all};
+ghost use Rattle.play.specs.Cursor.{seconds-from, firsts-from, rules-from, moves-from, Finds, Starts-with-all};
 use crate::moves::turn;
 use eval::eval;
 use rows::RuleRow;

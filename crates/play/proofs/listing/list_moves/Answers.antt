@@ -1,6 +1,4 @@
-use mathlib.Core.List.{List}
 use native.Mathlib.Omega.{arith}
-use Rattle.rules.specs.declared.Move.{Move}
 use Rattle.rules.specs.Play.{legal-moves}
 use Rattle.rows.specs.Layout.{game-at}
 use Rattle.play.proofs.Steps.{starts-with-all}
@@ -9,7 +7,7 @@ use Rattle.play.proofs.listing.list_moves.Needs as need
 
 pub returns-then-answer-lt-HEAD : need.returns-then-answer-lt-HEAD
 returns-then-answer-lt-HEAD c = record {
-  size = no-room-for-head (c .args .answer .now) (legal-moves (game-at (c .args .rules .now)) (c .args .cells .now)) 0 (c .if-answer-lt-HEAD .taken);
+  size = no-room-for-head (c .args .answer .now) (legal-moves (game-at (c .args .rules .now)) (c .args .cells .now)) (c .if-answer-lt-HEAD .taken);
   bytes = tt;
 }
 
@@ -17,7 +15,7 @@ pub loop-v-holds : need.loop-v-holds
 loop-v-holds c = (
   omega arith,
   omega arith,
-  none-written (c .args .answer .now) (legal-moves (game-at (c .args .rules .now)) (c .args .cells .now)) 0 (omega arith),
+  none-written (c .args .answer .now) (legal-moves (game-at (c .args .rules .now)) (c .args .cells .now)) (omega arith),
   starts-with-all (game-at (c .args .rules .now)) (c .args .cells .now),
 )
 
