@@ -1,5 +1,6 @@
 // A game in lent memory: its words, its rules, and what their effects do.
 ghost use mathlib.Core.Path.{_≡_};
+ghost use Prim.Native.Nat.{_+_, _^_, _<_};
 ghost use lib.ListN.{getD, set};
 ghost use Rattle.rules.specs.Rules.{apply-effects};
 ghost use Rattle.rows.specs.Layout.{game-at, effects-at};
@@ -25,6 +26,13 @@ pub struct RuleRow {
     pub guard: u32,
     pub effects: u32,
     pub effects_at: u32,
+}
+
+// The two words of an effect: where the expressions of its cell and of its value are.
+#[derive(Clone, Copy)]
+struct EffectRow {
+    cell: u32,
+    value: u32,
 }
 
 // How many words a game begins with, and how many each rule has.
@@ -84,6 +92,18 @@ pub fn read_rule(rules: &[u32], r: u32) -> Option<RuleRow>
     })
 }
 
+// The effect at a place of memory.
+fn read_effect(rules: &[u32], at: usize) -> EffectRow
+    requires { ⌜ at < 2 ^ 63 ⌝ }
+    ensures cell { λ r. ⌜ r .cell ≡ getD (now (rules .entry)) at 0 ⌝ }
+    ensures value { λ r. ⌜ r .value ≡ getD (now (rules .entry)) (at + 1) 0 ⌝ }
+{
+    EffectRow {
+        cell: word_at(rules, at),
+        value: word_at(rules, at + 1),
+    }
+}
+
 // The effects of a rule happen one after the other, each in the position that those before it left.
 // `me` is whose turn it was before the first.
 pub fn apply_effects(
@@ -99,8 +119,9 @@ pub fn apply_effects(
 {
     for i in 0..row.effects {
         let at = row.effects_at as usize + 2 * (i as usize);
-        let cell = eval(rules, word_at(rules, at), cells, first, second, me);
-        let value = eval(rules, word_at(rules, at + 1), cells, first, second, me);
+        let effect = read_effect(rules, at);
+        let cell = eval(rules, effect.cell, cells, first, second, me);
+        let value = eval(rules, effect.value, cells, first, second, me);
         put_cell(cells, cell, value);
     }
 }

@@ -5,7 +5,7 @@ use Rattle.rows.proofs.read.apply_effects.Needs as need
 pub loop-i-again : need.loop-i-again
 loop-i-again c =
     one-more (c .args .rules .now) (c .args .first) (c .args .second) (c .args .me) (c .args .row .«effects_at») (c .loop-i .cells) (c .loop-i-test .taken)
-    (c .word-at .ensures) (c .eval-cell .ensures) (c .word-at-in-loop-i .ensures) (c .eval-value .ensures) (c .put-cell .ensures)
+    (c .read-effect-effect .ensures .cell) (c .eval-cell .ensures) (c .read-effect-effect .ensures .value) (c .eval-value .ensures) (c .put-cell .ensures)
     ∙ c .loop-i .inv
 
 pub returns : need.returns
