@@ -1,4 +1,6 @@
 // answer [--tables N] [--moves N] [--positions N] GAME [CALLS]
+#![tactic(auto)]
+
 use std::env;
 
 fn main(rt: HostRuntime) -> anyhow::Result<()> {

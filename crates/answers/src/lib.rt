@@ -1,4 +1,6 @@
 // Answers as bytes: written, and read.
+#![tactic(auto)]
+
 mod reading;
 mod writing;
 

@@ -4,8 +4,8 @@ ghost use Rattle.answers.specs.Answers.{parse_answer, parse_as};
 ghost use Rattle.answers.specs.Reading.{answer_read, InsideRead};
 
 use super::{Reply, Row};
-use wire::field_at;
 use rules::Refusal;
+use wire::field_at;
 
 // A reply, if there are just as many bytes as it wants.
 fn whole(count: usize, wanted: usize, reply: Reply) -> Option<Reply>

@@ -5,8 +5,8 @@ ghost use Rattle.wire.specs.Fields.{fields_bytes, written, room};
 ghost use Rattle.answers.specs.Answers.{answer_bytes};
 ghost use Rattle.answers.specs.Writing.{list_head, move_bytes};
 
-use wire::{put_field, put_fields};
 use rules::{Move, Refusal};
+use wire::{put_field, put_fields};
 
 // A kind and one number.
 fn write_one(answer: &mut [u8], kind: u8, n: u32) -> Option<usize>

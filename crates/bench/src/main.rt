@@ -1,5 +1,7 @@
 // bench [TIMES]: loads noughts and crosses, works out for every board whether somebody has three in a row, by the game's own expression,
 // and lists the moves in every position that play can lead to. With TIMES it does both as often and says how long the best took.
+#![tactic(auto)]
+
 mod listings;
 
 use anyhow::anyhow;

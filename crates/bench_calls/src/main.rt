@@ -1,5 +1,7 @@
 // bench_calls [TIMES]: servers with 1 and with 1,024 tables; moves are played at their tables in turn, and then the tables are looked at.
 // With TIMES it does so as often, and says how long 100,000 calls took at best: the first of a million plays, the last of them, and the looks.
+#![tactic(auto)]
+
 mod calls;
 
 use calls::{new_server, play_all, see_all, sit_all};

@@ -1,4 +1,6 @@
 // What the words of a command line ask for, and the lines of a calls file: what the programs decide, apart from files and streams.
+#![tactic(auto)]
+
 mod lines;
 mod options;
 

@@ -3,11 +3,11 @@
 ghost use Rattle.std.specs.Prelude.{◌≡◌, IfOk};
 ghost use Rattle.console.specs.Files.{in_bytes, small_enough, Served};
 
-use wire::{Excess, GameSize, check_game, first_excess};
 use game_text::{Expected, Fault, line_and_column, read_game};
 use printing::print_game;
 use std::fs;
 use std::io::{BufWriter, Write};
+use wire::{Excess, GameSize, check_game, first_excess};
 
 // A file whose first byte is below this is a game in byte form: such a byte begins no text.
 const FIRST_OF_TEXT: u8 = 9;

@@ -1,4 +1,6 @@
 // Files and standard streams: a game and its calls in, a line for each call out, and a sentence for what goes wrong.
+#![tactic(auto)]
+
 ghost use Rattle.std.specs.Prelude.{◌≡◌, ◌<◌, true, false, map, is_err, string_bytes};
 ghost use Rattle.commands.specs.Options.{request_of};
 ghost use Rattle.console.specs.Ends.{refused_words};

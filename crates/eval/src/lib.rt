@@ -1,4 +1,6 @@
 // One expression in lent memory: how it is laid out, its value in a position, and how it is loaded from bytes.
+#![tactic(auto)]
+
 ghost use Rattle.std.specs.Prelude.{◌≡◌, ℕ, ◌+◌, ◌-◌, ◌*◌, ◌≤◌, if◌then◌else◌, nat_eq, nat_lt, slice_index};
 ghost use Rattle.rules.specs.Rules.{capped, quotient, remainder, eval as value_of_lem};
 ghost use Rattle.eval.specs.Memory.{node_of, node_at, expr_within, expr_at};

@@ -1,4 +1,6 @@
 // Expressions loaded and evaluated, on examples.
+#![tactic(auto)]
+
 #[cfg(test)]
 mod tests {
     use eval::{Loaded, eval, load_expr};

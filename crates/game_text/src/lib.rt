@@ -1,4 +1,6 @@
 // Games as plain text, read into bytes.
+#![tactic(auto)]
+
 ghost use Rattle.std.specs.Prelude.{◌≡◌, slice_set};
 ghost use Rattle.game_text.specs.Machine.{is_end, beginning, fault_at, read};
 ghost use Rattle.game_text.specs.Theorems.{Means, OneGameAText};

@@ -1,4 +1,6 @@
 // Tests of reading a game's text. What is expected is worked out by hand from docs/FORMATS.md.
+#![tactic(auto)]
+
 #[cfg(test)]
 mod tests {
     use game_text::{Expected, Fault, line_and_column, read_game};

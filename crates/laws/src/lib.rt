@@ -1,4 +1,6 @@
 // Theorems about the meaning of rules and calls, for every game. Each function stands for the theorem that its contract is.
+#![tactic(auto)]
+
 ghost use Rattle.laws.specs.Effects.{OffTheBoardIs0, OffTheBoardChangesNothing, OneCellChanges, OneAfterTheOther, MeIsTakenBefore, ValuesStaySmall};
 ghost use Rattle.laws.specs.Values.{ValueOfEachKind, TurnGoesRound};
 ghost use Rattle.laws.specs.Legal.{RulesByTheirPlace, LegalJustIf, MadeByItsEffects, OverJustIf, GainedByEach};

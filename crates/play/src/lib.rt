@@ -1,4 +1,6 @@
 // Playing a game that is in lent memory.
+#![tactic(auto)]
+
 mod cursor;
 mod listing;
 mod moves;

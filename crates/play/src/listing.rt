@@ -12,10 +12,10 @@ ghost use Rattle.play.specs.Listing.{part_listed, Lists};
 
 use crate::moves::turn;
 use answers::write_move;
-use wire::put_field;
 use eval::eval;
 use rows::{RuleRow, read_game, read_rule};
 use rules::Move;
+use wire::put_field;
 
 // The kind of a list in an answer, and how many bytes stand before its moves.
 const LIST: u8 = 3;

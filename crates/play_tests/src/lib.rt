@@ -1,11 +1,13 @@
 // Tests of playing games in lent memory, worked out by hand. The games are in byte form: docs/FORMATS.md says how.
+#![tactic(auto)]
+
 #[cfg(test)]
 mod tests {
-    use wire::field_at;
     use play::{apply, is_legal, is_over, list_moves, next_move, payoff, turn};
     use rows::load;
     use rules::Move;
     use std::test::Fail;
+    use wire::field_at;
 
     // A line of bytes for the players and cells, one for each rule, and one for the end and the gain.
     // Cells beyond the board, and effects in turn: players 2, cells 0 7,

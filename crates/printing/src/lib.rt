@@ -1,4 +1,6 @@
 // Games and answers printed as text. What is put into lent memory goes in as far as there is room, and each step says the place after it.
+#![tactic(auto)]
+
 mod games;
 mod replies;
 

@@ -1,4 +1,6 @@
 // Tests of printed games and answers. What is expected is worked out by hand from docs/FORMATS.md.
+#![tactic(auto)]
+
 #[cfg(test)]
 mod tests {
     use printing::{print_answer, print_game};

@@ -1,4 +1,6 @@
 // The promises of a server for every implementation that meets the contracts of `open` and `call`.
+#![tactic(auto)]
+
 ghost use Rattle.promises.specs.Implementations.{EveryImplementation, AnImplementation};
 ghost use Rattle.promises.specs.Pile.{PileByBytes, PileBytes};
 

@@ -1,4 +1,6 @@
 // A whole game in lent memory: loaded from its bytes, and read.
+#![tactic(auto)]
+
 mod loading;
 mod read;
 

@@ -5,9 +5,9 @@ ghost use Rattle.rows.specs.Encoding.{EveryGameHasMemory};
 ghost use Rattle.rows.specs.Layout.{words_needed};
 ghost use Rattle.rows.specs.Load.{WordsAreEnough, EndsInside, PlacesExprs, RuleWritten, PlacesRule, PlacesRules, HeaderWritten, Fills, LoadsGame};
 
-use wire::{GameSize, check_game};
 use eval::{Loaded, load_expr};
 use rules::Refusal;
+use wire::{GameSize, check_game};
 
 // Where reading goes on in the bytes, and where memory is free.
 #[derive(Clone, Copy)]

@@ -1,4 +1,6 @@
 // Tests of games in lent memory: what is loaded, its rules and what they do, worked out by hand.
+#![tactic(auto)]
+
 #[cfg(test)]
 mod tests {
     use eval::eval;

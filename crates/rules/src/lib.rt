@@ -1,4 +1,5 @@
 // The plain types that code and meaning share. What they mean stands in specs/, in this order: Rules, Play, Force, Calls, Bounds.
+#![tactic(auto)]
 
 // A move: a rule of the game, by its place in the list of rules, and the two numbers that it is played with.
 #[derive(Clone, Copy, PartialEq, Eq, Debug)]

@@ -10,11 +10,11 @@ ghost use Rattle.session.specs.Calling.{ready, Called};
 ghost use Rattle.session.specs.Inner.{Writes, Acts};
 
 use answers::{write_list_head, write_number, write_refusal, write_shown};
-use wire::read_call;
 use eval::word_at;
 use play::{list_moves, turn};
 use rules::{Call, Refusal};
 use tables::{find_table, play, read_plan, sit};
+use wire::read_call;
 
 // Where the header says how long the other slices are at least.
 const RULES_SIZE: usize = 6;

@@ -1,4 +1,6 @@
 // A server: opened for a game, and called in bytes.
+#![tactic(auto)]
+
 mod calling;
 mod opening;
 

@@ -2,9 +2,9 @@
 ghost use Rattle.std.specs.Prelude.{◌≡◌};
 ghost use Rattle.session.specs.Opening.{lent, needed, long_enough, Opens};
 
-use wire::check_game;
 use rules::{Limits, Refusal};
 use tables::{Sizes, open_tables, sizes_for};
+use wire::check_game;
 
 const TOO_LARGE: Refusal = Refusal {
     number: 3,

@@ -1,5 +1,7 @@
 // Tests of a server in lent memory, worked out by hand. A call and its answer are written as numbers, `CALL = ANSWER;`, the kind first:
 // docs/FORMATS.md has the kinds, and how calls, answers and games are bytes.
+#![tactic(auto)]
+
 #[cfg(test)]
 mod tests {
     use rules::Limits;

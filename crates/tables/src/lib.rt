@@ -1,4 +1,6 @@
 // A server's tables in lent memory: the state, and what it means.
+#![tactic(auto)]
+
 mod acting;
 mod plan;
 mod records;

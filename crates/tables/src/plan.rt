@@ -4,9 +4,9 @@ ghost use Rattle.rules.specs.Bounds.{good_limits};
 ghost use Rattle.tables.specs.Layout.{good_size, good_plan, plan_of};
 ghost use Rattle.tables.specs.Acting.{sizes_for, opening, OpeningIsRight, GoodGamesHaveGoodSizes};
 
-use wire::GameSize;
 use rows::words_needed;
 use rules::Limits;
+use wire::GameSize;
 
 // What the header says: limits, sizes of the game, how many tables there are, and how many moves were played at all of them.
 #[derive(Clone, Copy)]

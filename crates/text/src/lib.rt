@@ -1,5 +1,7 @@
 // Calls as lines of text. What a call's line is stands in specs/Grammar.
 // Each reader starts at a place of the line, and answers what it read and the place after it, or else the place of the first byte that doesn't fit.
+#![tactic(auto)]
+
 ghost use Rattle.std.specs.Prelude.{◌≡◌, ◌≤◌, drop};
 ghost use Rattle.text.specs.Grammar.{blank, digit, number_of, Reads, passed_over};
 ghost use Rattle.text.specs.Reader.{

@@ -1,4 +1,6 @@
 // Tests of call lines, of what they ask, and of command lines. What is expected is worked out by hand from docs/FORMATS.md.
+#![tactic(auto)]
+
 #[cfg(test)]
 mod tests {
     use commands::{Asked, Fault, Request, read_line, read_request};

@@ -1,4 +1,6 @@
 // transcripts WORD WORD WORD WORD ..: runs `answer` on each two words: a game and its calls, or `--print` and a game.
+#![tactic(auto)]
+
 use std::env;
 
 fn main(rt: HostRuntime) -> anyhow::Result<()> {

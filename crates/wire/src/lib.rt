@@ -1,4 +1,6 @@
 // Games and calls as bytes.
+#![tactic(auto)]
+
 mod calls;
 mod excesses;
 mod fields;

@@ -1,9 +1,11 @@
 // Tests of games and calls as bytes. What is expected is worked out by hand from docs/FORMATS.md and docs/LANGUAGE.md.
+#![tactic(auto)]
+
 #[cfg(test)]
 mod tests {
-    use wire::{Excess, check_game, first_excess, read_call};
     use std::alloc::{AllocError, Global};
     use std::test::Fail;
+    use wire::{Excess, check_game, first_excess, read_call};
 
     // The pile game with 5 in the pile.
     const PILE: [u8; 74] = [
