@@ -119,6 +119,15 @@ def behind_made(text, at):
     )
 
 
+def of_others(text):
+    """The names that a file takes from the toolchain's libraries: those keep their spelling there."""
+    found = set()
+    for path, items, alone in re.findall(r"(?m)\buse ((?:Rattle\.(?:std|core)|mathlib|Prim|lib)[\w.+-]*?)(?:\.\{([^}]*)\}|\.([^\s.;{]+);?$)", text):
+        for item in (items or alone).split(","):
+            found.update(item.split(" as ")[:1] and [w.strip() for w in item.split(" as ")])
+    return found
+
+
 def turn_comment(comment, rows):
     return re.sub(r"`([^`\n]+)`", lambda m: "`" + re.sub(TOKEN, lambda t: rows.get(t[0], t[0]), m[1]) + "`", comment)
 
@@ -163,7 +172,8 @@ def main():
             new = rows[old]
             if new in used if antt else re.search(rf"(?<![\w.]){re.escape(new)}\b(?!\s*[(:<!])", plain):
                 print(f"meets: {os.path.relpath(path, root)}: {old} becomes {new}, which stands there")
-        turned = turn_antt(text, rows, answers(path)) if antt else turn_rust(text, rows)
+        own = {old: new for old, new in rows.items() if old not in of_others(text)}
+        turned = turn_antt(text, own, answers(path)) if antt else turn_rust(text, own)
         turned = turn_crates(turned, antt)
         if turned != text:
             write(path, turned)

@@ -1,6 +1,6 @@
 -- Answers come back from their bytes, and bytes from their answers.
 use Rattle.std.proofs.Common.{◌≡◌, ℕ, zero, suc, ◌+◌, ◌*◌, true, cond, eqb, List, [], ◌∷◌, ◌++◌, length, get_or, take, drop, Some, None, Option, sym, refl, ap, ◌∙◌, subst, ⊎_elim, arith, length-append}
-use Rattle.std.proofs.lemmas.Bool.{cond-true, cond_false, cond_both, cases_Bool, eqb-true, eq-eqb}
+use Rattle.std.proofs.lemmas.Bool.{cond-true, cond-false, cond_both, cases_Bool, eqb-true, eq-eqb}
 use Rattle.std.proofs.lemmas.List.{append-nil, take_at, drop_at, drop_all}
 use Rattle.rules.specs.declared.Move.{Move}
 use Rattle.rules.specs.Rules.{Position}
@@ -134,7 +134,7 @@ listed_fields bs = λ j. length_moves_at bs (field_at bs 1) 5 j ∷ moves_fields
 whole_some : (bs : List ℕ) (n : ℕ) (x a : Answer) → whole bs n x ≡ Some a → (length bs ≡ n) × (x ≡ a)
 whole_some bs n x a e =
     ⊎_elim (λ t. let w = cond-true (eqb (length bs) n) (Some x) None t in (eqb-true (length bs) n t, (cc)))
-    (λ f. let w = cond_false (eqb (length bs) n) (Some x) None f in let z : ◌≡◌ {A = ℕ} 0 1 = cc in absurd (omega arith)) (cases_Bool (eqb (length bs) n))
+    (λ f. let w = cond-false (eqb (length bs) n) (Some x) None f in let z : ◌≡◌ {A = ℕ} 0 1 = cc in absurd (omega arith)) (cases_Bool (eqb (length bs) n))
 
 -- what has to be shown of each way of reading
 abbrev Back : List ℕ → Answer → Option Answer → Type 0

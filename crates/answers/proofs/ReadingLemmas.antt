@@ -1,6 +1,6 @@
 -- What is read as a reply is what is read as an answer.
 use Rattle.std.proofs.Common.{◌≡◌, ℕ, ◌+◌, ◌*◌, ◌<◌, true, false, cond, eqb, List, [], ◌∷◌, length, get_or, Some, None, Option, sym, refl, ap, ◌∙◌, arith}
-use Rattle.std.proofs.lemmas.Bool.{cond_both, cond_false, eqb-true, ne_eqb}
+use Rattle.std.proofs.lemmas.Bool.{cond_both, cond-false, eqb-true, ne_eqb}
 use Rattle.answers.specs.declared.Reply.{Reply}
 use Rattle.answers.specs.declared.Reply.TheVariants.{Shown, Listed}
 use Rattle.rules.specs.Calls.{shown, listed}
@@ -60,6 +60,6 @@ unfolding parse_answer
 of_unknown bs h =
     let k : ℕ = get_or bs 0 0 in
     sym
-    (cond_false (eqb k 0) _ _ (ne_eqb k 0 (λ e. omega arith)) ∙ cond_false (eqb k 1) _ _ (ne_eqb k 1 (λ e. omega arith))
-    ∙ cond_false (eqb k 2) _ _ (ne_eqb k 2 (λ e. omega arith)) ∙ cond_false (eqb k 3) _ _ (ne_eqb k 3 (λ e. omega arith))
-    ∙ cond_false (eqb k 4) _ _ (ne_eqb k 4 (λ e. omega arith)))
+    (cond-false (eqb k 0) _ _ (ne_eqb k 0 (λ e. omega arith)) ∙ cond-false (eqb k 1) _ _ (ne_eqb k 1 (λ e. omega arith))
+    ∙ cond-false (eqb k 2) _ _ (ne_eqb k 2 (λ e. omega arith)) ∙ cond-false (eqb k 3) _ _ (ne_eqb k 3 (λ e. omega arith))
+    ∙ cond-false (eqb k 4) _ _ (ne_eqb k 4 (λ e. omega arith)))

@@ -1,7 +1,7 @@
 -- What letters say, and how what is kept of them is read.
 use Rattle.std.proofs.Common.{◌≡◌, ℕ, suc, ◌+◌, ◌*◌, ◌<◌, ◌≤◌, min, max, true, cond, eqb, ltb, List, [], ◌∷◌, length, take, Ok, Err, Option, Result, unwrap_or, sym, refl, ap, ◌∙◌, subst, inr, ⊎_elim, arith, length-take}
 use Rattle.std.proofs.lemmas.List.{take_all, take-take, take_at, length-take-le}
-use Rattle.std.proofs.lemmas.Bool.{cases_lt, cond_false, ne_eqb}
+use Rattle.std.proofs.lemmas.Bool.{cases_lt, cond-false, ne_eqb}
 use Rattle.std.proofs.lemmas.Bool.Decides.{nat_tests}
 use Rattle.rules.specs.declared.Call.{Call}
 use Rattle.rules.specs.declared.Call.TheVariants.{Sit, Play, Ticks, See, May, Back, CanForce}
@@ -74,7 +74,7 @@ unfolding parse_call
 too_long k bs l =
     let most : min (suc (length bs)) (1 + 4 * field_count k) ≡ 1 + 4 * field_count k = omega (arith, few_fields k) in
     ap (λ r. cond (ltb 6 k) (Err 0) r)
-    (cond_false (eqb (suc (length bs)) (1 + 4 * field_count k)) (Ok (kind-call k (fields_at (k ∷ bs) 1 (field_count k))))
+    (cond-false (eqb (suc (length bs)) (1 + 4 * field_count k)) (Ok (kind-call k (fields_at (k ∷ bs) 1 (field_count k))))
     (Err (min (suc (length bs)) (1 + 4 * field_count k))) (ne_eqb (suc (length bs)) (1 + 4 * field_count k) (λ e. omega (arith, few_fields k)))
     ∙ ap Err most)
 

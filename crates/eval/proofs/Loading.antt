@@ -1,6 +1,6 @@
 -- Loading an expression: its parts one after the other, and then its row.
 use Rattle.std.proofs.Common.{◌≡◌, ℕ, zero, suc, ◌+◌, ◌-◌, ◌*◌, ◌<◌, ◌≤◌, min, Bool, true, false, cond, ltb, ◌⊎◌, List, [], ◌∷◌, ◌++◌, length, get_or, take, drop, set, sym, refl, ap, ◌∙◌, subst, inl, inr, ⊎_elim, arith}
-use Rattle.std.proofs.lemmas.Bool.{cases_eq, cond-true, cond_false, lt-ltb, le-ltb}
+use Rattle.std.proofs.lemmas.Bool.{cases_eq, cond-true, cond-false, lt-ltb, le-ltb}
 use Rattle.std.proofs.lemmas.List.{take_all, drop_all, drop_more, drop-drop, take_rest, length-drop, length-set, length_push, get_or_push, get_or_append_left, get_or-set_same, get_or-set_other}
 use Rattle.rules.specs.Rules.{Expr, Num}
 use Rattle.rules.specs.Bounds.{fits_depth, expr_parts}
@@ -240,7 +240,7 @@ pub unknown_kind : (bs : List ℕ) → 12 < get_or bs 0 0 → read_exprs 1 bs �
 unfolding read_exprs
 unknown_kind [] h = refl
 unknown_kind (zero ∷ bs) h = absurd (omega arith)
-unknown_kind (suc k ∷ bs) h = cond_false _ _ _ (le-ltb k 12 (omega arith))
+unknown_kind (suc k ∷ bs) h = cond-false _ _ _ (le-ltb k 12 (omega arith))
 
 -- levels that are not 0, as code has them
 pub at_levels : (l : ℕ) (bs : List ℕ) (at : ℕ) (xs ys : List ℕ) (r : Loaded) → (l ≡ 0 → ⊥) → LoadsWithin (suc (l - 1)) bs at xs ys r → LoadsWithin l bs at xs ys r

@@ -1,7 +1,7 @@
 -- The line and the column, one byte more.
 use Rattle.std.proofs.Common.{◌≡◌, ℕ, ◌+◌, ◌<◌, ◌≤◌, min, true, false, cond, eqb, List, [], ◌∷◌, length, get_or, take, drop, sym, refl, ap, ◌∙◌, arith}
 use Rattle.std.proofs.lemmas.List.{drop_more, drop_all, get_or-take, length-take}
-use Rattle.std.proofs.lemmas.Bool.{cond-true, cond_false, eq-eqb, ne_eqb}
+use Rattle.std.proofs.lemmas.Bool.{cond-true, cond-false, eq-eqb, ne_eqb}
 use Rattle.game_text.specs.Positions.{moved_by}
 
 one_on :
@@ -20,7 +20,7 @@ on_line_end text n i line column h l e = sym (one_on text n i line column h l �
 pub on_other :
     (text : List ℕ) (n i line column : ℕ) → i < length text → i < n → (get_or text i 0 ≡ 10 → ⊥)
     → moved_by (drop (i + 1) (take n text)) line (column + 1) ≡ moved_by (drop i (take n text)) line column
-on_other text n i line column h l e = sym (one_on text n i line column h l ∙ cond_false (eqb (get_or text i 0) 10) _ _ (ne_eqb (get_or text i 0) 10 e))
+on_other text n i line column h l e = sym (one_on text n i line column h l ∙ cond-false (eqb (get_or text i 0) 10) _ _ (ne_eqb (get_or text i 0) 10 e))
 
 pub none_on : (text : List ℕ) (n i line column : ℕ) → min n (length text) ≤ i → moved_by (drop i (take n text)) line column ≡ (line, column)
 unfolding moved_by

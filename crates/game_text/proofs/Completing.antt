@@ -1,7 +1,7 @@
 -- Wherever the machine stands, the text can go on to the end of a game.
 use Rattle.std.proofs.Common.{◌≡◌, ℕ, zero, suc, ◌+◌, ◌-◌, ◌*◌, ◌<◌, ◌≤◌, Bool, true, false, cond, not, ◌&&◌, eqb, ltb, ◌⊎◌, List, [], ◌∷◌, ◌++◌, length, set, Some, None, codes, Option, sym, refl, ap, ◌∙◌, subst, inl, inr, arith}
 use Rattle.std.proofs.lemmas.List.{append-nil, append_assoc}
-use Rattle.std.proofs.lemmas.Bool.{and_parts, and_from, not-true, cases_Bool, cond-true, cond_false}
+use Rattle.std.proofs.lemmas.Bool.{and_parts, and_from, not-true, cases_Bool, cond-true, cond-false}
 use Rattle.text.specs.Grammar.{Piece, word, number, digit, all, value_from, Spells, Written, end, piece}
 use Rattle.game_text.specs.declared.progress.Part.{Part}
 use Rattle.game_text.specs.declared.progress.Part.TheVariants.{Guard, Effect, Terminal, Payoff}

@@ -1,7 +1,7 @@
 -- The machine byte by byte does what it does piece by piece.
 use Rattle.std.proofs.Common.{◌≡◌, ℕ, zero, suc, ◌+◌, ◌-◌, ◌*◌, ◌<◌, ◌≤◌, Bool, true, false, cond, not, ◌&&◌, ◌||◌, eqb, ltb, leb, ◌⊎◌, List, [], ◌∷◌, ◌++◌, length, Some, None, Option, sym, refl, ap, ◌∙◌, subst, inl, inr, arith}
 use Rattle.std.proofs.lemmas.List.{append_assoc, append-nil}
-use Rattle.std.proofs.lemmas.Bool.{and_parts, and_from, not-true, cases_Bool, cond-true, cond_false, ltb-true, lt-ltb}
+use Rattle.std.proofs.lemmas.Bool.{and_parts, and_from, not-true, cases_Bool, cond-true, cond-false, ltb-true, lt-ltb}
 use Rattle.std.proofs.lemmas.Bool.Decides.{nat_tests}
 use Rattle.text.specs.Grammar.{Piece, word, number, blank, digit, all, value_from, Spells, Written, end, piece}
 use Rattle.game_text.specs.declared.progress.Word.{Word}
@@ -259,7 +259,7 @@ run_same p memory ps s e n = ap (run (state p memory)) (sym n) ∙ e
 step_on : (x y : Lexer) (b : ℕ) (p : Progress) (memory : List ℕ) → ends b ≡ false → added x b p ≡ Some y → cond (ends b)
     (and_then (settled x p memory) (λ s. Some (machine (cond (eqb b 35) comment gap) s.at s.memory))) (and_then (added x b p) (λ z. Some (machine z p memory)))
     ≡ Some (machine y p memory)
-step_on x y b p memory n e = cond_false (ends b) _ _ n ∙ ap (λ z. and_then z (λ u. Some (machine u p memory))) e
+step_on x y b p memory n e = cond-false (ends b) _ _ n ∙ ap (λ z. and_then z (λ u. Some (machine u p memory))) e
 
 -- and after one that ends it
 step_over : (x : Lexer) (b : ℕ) (p : Progress) (memory : List ℕ) (s : State) → ends b ≡ true → settled x p memory ≡ Some s → cond (ends b)
@@ -290,7 +290,7 @@ forward (b ∷ t) gap p memory ps s l e =
                 (forward t (digits (0 * 10 + (b - 48))) p memory ps s o.1 e)
             | inr d ↦
                 let o = letters_on [] b p memory ps (blanked false t) s d.1 n e in
-                fed_more (machine gap p memory) _ b t s (step_on gap _ b p memory n (cond_false (digit b) (more_digits 0 b p) (more_letters [] b p) d.0 ∙ o.0))
+                fed_more (machine gap p memory) _ b t s (step_on gap _ b p memory n (cond-false (digit b) (more_digits 0 b p) (more_letters [] b p) d.0 ∙ o.0))
                 (forward t (letters (b ∷ [])) p memory ps s o.1 e)
           ]
     ]

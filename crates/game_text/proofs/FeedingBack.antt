@@ -1,7 +1,7 @@
 -- What the machine takes byte by byte are pieces that it takes one by one.
 use Rattle.std.proofs.Common.{◌≡◌, ℕ, zero, suc, ◌+◌, ◌-◌, ◌*◌, ◌<◌, ◌≤◌, Bool, true, false, cond, not, ◌&&◌, ◌||◌, eqb, ltb, leb, ◌⊎◌, List, [], ◌∷◌, ◌++◌, length, Some, None, Option, sym, refl, ap, ◌∙◌, subst, inl, inr, arith}
 use Rattle.std.proofs.lemmas.List.{append_assoc, append-nil}
-use Rattle.std.proofs.lemmas.Bool.{and_parts, and_from, cases_Bool, cond-true, cond_false, cond_both, ltb-true}
+use Rattle.std.proofs.lemmas.Bool.{and_parts, and_from, cases_Bool, cond-true, cond-false, cond_both, ltb-true}
 use Rattle.text.specs.Grammar.{Piece, word, number, blank, digit, all, value_from, Spells, Written, end, piece}
 use Rattle.game_text.specs.declared.progress.Stage.{Stage}
 use Rattle.game_text.specs.declared.progress.Stage.TheVariants.{PlayersWord, PlayersNumber, CellsWord, Values, FirstBound, SecondBound, MayWord, Expr, Sets, GainWord, End}
@@ -65,7 +65,7 @@ pub on_inv :
     (x : Lexer) (b : ℕ) (p : Progress) (memory : List ℕ) (n : Machine) → step_of x b p memory ≡ Some n → ends b ≡ false
     → (y : Lexer) × (added x b p ≡ Some y) × (machine y p memory ≡ n)
 on_inv x b p memory n e h =
-    let f = then_some (added x b p) (λ (y : Lexer). Some (machine y p memory)) n (sym (cond_false (ends b) _ _ h) ∙ e) in
+    let f = then_some (added x b p) (λ (y : Lexer). Some (machine y p memory)) n (sym (cond-false (ends b) _ _ h) ∙ e) in
     (f.0, f.1, same_some _ n f.2)
 
 pub digits_inv :
@@ -231,7 +231,7 @@ backward (b ∷ t) gap p memory s h f =
                 let k = backward t (digits (0 * 10 + (b - 48))) p memory s y.1 (subst (λ z. Fed (machine z p memory) t s) (sym y.2) g) in
                 record { ps = k.ps; left = subst (λ z. Written 0 k.ps z) (sym (blanked_other b t n)) (wrap_digits p memory b k.ps (blanked false t) s d k.left k.on); on = k.on }
             | inr d ↦
-                let y = letters_inv [] b p i.0 (sym (cond_false (digit b) (more_digits 0 b p) (more_letters [] b p) d) ∙ i.1) in
+                let y = letters_inv [] b p i.0 (sym (cond-false (digit b) (more_digits 0 b p) (more_letters [] b p) d) ∙ i.1) in
                 let k = backward t (letters (b ∷ [])) p memory s tt (subst (λ z. Fed (machine z p memory) t s) (sym y) g) in
                 record { ps = k.ps; left = subst (λ z. Written 0 k.ps z) (sym (blanked_other b t n)) (wrap_letters b k.ps (blanked false t) k.left); on = k.on }
           ]

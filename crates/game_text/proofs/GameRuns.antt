@@ -1,7 +1,7 @@
 -- What the machine does with the pieces of a game: it writes the game's bytes.
 use Rattle.std.proofs.Common.{◌≡◌, ℕ, zero, suc, ◌+◌, ◌-◌, ◌*◌, ◌/◌, ◌%◌, ◌<◌, ◌≤◌, Bool, true, false, cond, ◌&&◌, eqb, ltb, List, [], ◌∷◌, ◌++◌, length, set, Some, None, codes, Option, sym, refl, ap, ◌∙◌, subst, arith}
 use Rattle.std.proofs.lemmas.List.{append_assoc, append-nil, length-append}
-use Rattle.std.proofs.lemmas.Bool.{and_parts, cond-true, cond_false, ltb-true, lt-ltb, ne_eqb}
+use Rattle.std.proofs.lemmas.Bool.{and_parts, cond-true, cond-false, ltb-true, lt-ltb, ne_eqb}
 use Rattle.rules.specs.Rules.{Expr, Effect, Rule, Game}
 use Rattle.rules.specs.Bounds.{all_below}
 use Rattle.wire.specs.Numbers.{number_bytes}
@@ -156,7 +156,7 @@ over_run :
 over_run c r k d a old ps h =
     run_one (between Sets c r k d a old) _ (word (codes "over")) ps
     (ap (λ x. and_then x (λ w. Some (word_taken w (between Sets c r k d a old).at (filled d old)))) (look_over (ltb k 255) (ltb r 255))
-    ∙ ap (λ x. Some x) (cond_false (eqb r 0) _ _ (ne_eqb r 0 (λ e. omega arith))))
+    ∙ ap (λ x. Some x) (cond-false (eqb r 0) _ _ (ne_eqb r 0 (λ e. omega arith))))
 
 rule_run :
     (c r k : ℕ) (hd post : List ℕ) (a : ℕ) (old : List ℕ) (ps : List Piece) → length hd ≡ 3 + 2 * c → 0 < r → r < 255
@@ -164,7 +164,7 @@ rule_run :
 rule_run c r k hd post a old ps n h l =
     let d : List ℕ = hd ++ (r ∷ post) in
     let len : cond (eqb r 0) (length d + 1) (length d) ≡ length (hd ++ ((r + 1) ∷ post)) =
-    cond_false (eqb r 0) (length d + 1) (length d) (ne_eqb r 0 (λ e. omega arith)) ∙ length_middle hd r (r + 1) post
+    cond-false (eqb r 0) (length d + 1) (length d) (ne_eqb r 0 (λ e. omega arith)) ∙ length_middle hd r (r + 1) post
     in
     run_one (between Sets c r k d a old) _ (word (codes "rule")) ps
     (ap (λ x. and_then x (λ w. Some (word_taken w (between Sets c r k d a old).at (filled d old)))) (look_rule (ltb k 255) (ltb r 255) (lt-ltb r 255 l)))

@@ -1,7 +1,7 @@
 -- The loop over a text's bytes: what is left to read gives the outcome.
 use Rattle.std.proofs.Common.{◌≡◌, ℕ, ◌+◌, ◌<◌, ◌≤◌, true, false, List, length, get_or, drop, Some, None, Ok, Option, sym, refl, ap, ◌∙◌, subst}
 use Rattle.std.proofs.lemmas.List.{drop_more, drop_all}
-use Rattle.std.proofs.lemmas.Bool.{cond-true, cond_false}
+use Rattle.std.proofs.lemmas.Bool.{cond-true, cond-false}
 use Rattle.game_text.specs.declared.progress.Progress.{Progress}
 use Rattle.game_text.specs.Machine.{State, Machine, Outcome, step, settled, went_on, at_end, is_end, failed, fault_at, reading}
 
@@ -37,4 +37,4 @@ ended_whole m text i s h e t = ended m text i h ∙ ap (λ x. at_end m x i) e �
 pub ended_early :
     (m : Machine) (text : List ℕ) (i : ℕ) (s : State) → length text ≤ i → settled m.lexer m.at m.memory ≡ Some s → is_end s.at.stage ≡ false
     → reading m (drop i text) i ≡ failed i s.at s.memory
-ended_early m text i s h e t = ended m text i h ∙ ap (λ x. at_end m x i) e ∙ cond_false (is_end s.at.stage) _ _ t
+ended_early m text i s h e t = ended m text i h ∙ ap (λ x. at_end m x i) e ∙ cond-false (is_end s.at.stage) _ _ t

@@ -1,7 +1,7 @@
 -- The piece that ends before a place: what the code takes is what the machine takes.
 use Rattle.std.proofs.Common.{◌≡◌, ℕ, ◌+◌, ◌-◌, ◌<◌, ◌≤◌, Bool, true, false, cond, ltb, List, [], ◌∷◌, ◌++◌, length, get_or, take, drop, Some, None, Option, sym, refl, ap, ◌∙◌, subst, arith}
 use Rattle.std.proofs.lemmas.List.{take_more, length-drop, get_or-drop}
-use Rattle.std.proofs.lemmas.Bool.{cond_both, cond-true, cond_false, ltb-true}
+use Rattle.std.proofs.lemmas.Bool.{cond_both, cond-true, cond-false, ltb-true}
 use Rattle.game_text.specs.declared.progress.Stage.{Stage}
 use Rattle.game_text.specs.declared.progress.Stage.TheVariants.{PlayersWord, PlayersNumber, CellsWord, Values, FirstBound, SecondBound, MayWord, Expr, Sets, GainWord, End}
 use Rattle.game_text.specs.declared.progress.Word.{Word}
@@ -143,7 +143,7 @@ gap_letter text i b t p r e d h =
     let z : i - i ≡ 0 = omega arith in
     subst (λ x. SameLexer x text (i + 1) p r)
     (ap (λ k. more_letters (take k (drop i text)) b p) z
-    ∙ sym (ap (λ x. added (lexer_of text i x) b p) e ∙ cond_false (digit b) (more_digits 0 b p) (more_letters [] b p) d)) h
+    ∙ sym (ap (λ x. added (lexer_of text i x) b p) e ∙ cond-false (digit b) (more_digits 0 b p) (more_letters [] b p) d)) h
 
 pub digits_digit :
     (text : List ℕ) (i b : ℕ) (t : Token) (p : Progress) (n : ℕ) (r : Option Token) → t ≡ Digits n → SameLexer (more_digits n b p) text (i + 1) p r

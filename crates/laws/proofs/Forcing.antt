@@ -1,6 +1,6 @@
 -- The laws of forcing, each by induction over the moves left: at every position the game is over, or it is player m's turn, or another's.
 use Rattle.std.proofs.Common.{◌≡◌, ℕ, zero, suc, ◌+◌, ◌-◌, ◌<◌, ◌≤◌, Bool, true, false, not, ◌&&◌, eqb, leb, ◌≢◌, List, [], ◌∷◌, length, sym, refl, ap, ◌∙◌, inl, inr, ⊎_elim, arith}
-use Rattle.std.proofs.lemmas.Bool.{cases_eq, cases_Bool, both_ways, leb-true, le-leb, eq-eqb, ne_eqb, true≢false, and_left, or_parts, cond-true, cond_false}
+use Rattle.std.proofs.lemmas.Bool.{cases_eq, cases_Bool, both_ways, leb-true, le-leb, eq-eqb, ne_eqb, true≢false, and_left, or_parts, cond-true, cond-false}
 use Rattle.std.proofs.lemmas.Bool.Decides.{nat_tests}
 use Rattle.rules.specs.declared.Move.{Move}
 use Rattle.rules.specs.Rules.{Position, Game, turn, is_legal, apply}
@@ -34,13 +34,13 @@ at_my_turn :
     (g : Game) (m k d : ℕ) (p : Position) → is_over g p ≡ false → turn g p ≡ m →
     can_force g m k (suc d) p ≡ after_some (can_force g m k d) g p (legal_moves g p)
 unfolding can_force
-at_my_turn g m k d p o t = cond_false (is_over g p) _ _ o ∙ cond-true (eqb (turn g p) m) _ _ (eq-eqb (turn g p) m t)
+at_my_turn g m k d p o t = cond-false (is_over g p) _ _ o ∙ cond-true (eqb (turn g p) m) _ _ (eq-eqb (turn g p) m t)
 
 at_their_turn :
     (g : Game) (m k d : ℕ) (p : Position) → is_over g p ≡ false → turn g p ≢ m →
     can_force g m k (suc d) p ≡ after_every (can_force g m k d) g p (legal_moves g p)
 unfolding can_force
-at_their_turn g m k d p o t = cond_false (is_over g p) _ _ o ∙ cond_false (eqb (turn g p) m) _ _ (ne_eqb (turn g p) m t)
+at_their_turn g m k d p o t = cond-false (is_over g p) _ _ o ∙ cond-false (eqb (turn g p) m) _ _ (ne_eqb (turn g p) m t)
 
 -- the same as facts about legal moves, both ways
 end_gives : (g : Game) (m k d : ℕ) (p : Position) → is_over g p ≡ true → can_force g m k d p ≡ true → k ≤ payoff g p m

@@ -3,7 +3,7 @@ use Rattle.std.proofs.Common.{◌≡◌, ℕ, zero, suc, ◌+◌, ◌<◌, ◌�
 use lib.Dec.{leb-suc-suc}
 use Rattle.std.specs.List.{AllByRecursion as All}
 use Rattle.std.proofs.ByRecursion.{All-append, All-weaker}
-use Rattle.std.proofs.lemmas.Bool.{both_ways, eqb-true, eqb-false, eq-eqb, lt-ltb, le-ltb, and_parts, or_right, or_parts, cases_Bool, cond-true, cond_false}
+use Rattle.std.proofs.lemmas.Bool.{both_ways, eqb-true, eqb-false, eq-eqb, lt-ltb, le-ltb, and_parts, or_right, or_parts, cases_Bool, cond-true, cond-false}
 use Rattle.std.proofs.lemmas.Bool.Decides.{nat_tests}
 use Rattle.rules.specs.declared.Move.{Move}
 use Rattle.rules.specs.Rules.{Position, Rule, Game, eval, turn, no_rule, rule_at, is_legal}
@@ -125,7 +125,7 @@ times_alone false v = refl
 -- a sum of which only the part at k is not 0
 only_at : (total part : ℕ → ℕ) (k : ℕ) → total 0 ≡ 0 → ((i : ℕ) → total (suc i) ≡ total i + part i) → ((i : ℕ) → (i ≡ k → ⊥) → part i ≡ 0) → (n : ℕ) →
     total n ≡ cond (ltb k n) (part k) 0
-only_at total part k start more others zero = start ∙ sym (cond_false (ltb k 0) (part k) 0 (le-ltb k 0 (omega arith)))
+only_at total part k start more others zero = start ∙ sym (cond-false (ltb k 0) (part k) 0 (le-ltb k 0 (omega arith)))
 only_at total part k start more others (suc n) =
     let ih = only_at total part k start more others n in
     let now = more n in
@@ -155,7 +155,7 @@ module _ (g : Game) (p : Position) (v : Move) where
       times_in (moves_by_rule g p r us) v
       ≡ cond (ltb i (length us)) (times_in (moves_by_first g p v.rule (get_or us i no_rule).first_bound (get_or us i no_rule).second_bound) v) 0
   unfolding moves_by_rule times_in
-  times_rule r i [] e = sym (cond_false (ltb i 0) _ 0 (le-ltb i 0 (omega arith)))
+  times_rule r i [] e = sym (cond-false (ltb i 0) _ 0 (le-ltb i 0 (omega arith)))
   times_rule r zero (u ∷ us) e =
       let here : v.rule ≡ r = omega arith in
       let later = times_none (FromRule (suc r)) v (λ w h same. omega (arith, ap (λ m. m.rule) same)) (moves_by_rule g p (suc r) us) (all_from_rule g p (suc r) us) in
@@ -206,7 +206,7 @@ pub listed_is_legal : (g : Game) (p : Position) (v : Move) → Member v (legal_m
 listed_is_legal g p v h =
     elim (cases_Bool (is_legal g p v)) [
       | inl e ↦ e
-      | inr e ↦ absurd (omega (arith, member_counts v (legal_moves g p) h, listed_once g p v ∙ cond_false (is_legal g p v) 1 0 e))
+      | inr e ↦ absurd (omega (arith, member_counts v (legal_moves g p) h, listed_once g p v ∙ cond-false (is_legal g p v) 1 0 e))
     ]
 
 pub legal_is_listed : (g : Game) (p : Position) (v : Move) → is_legal g p v ≡ true → Member v (legal_moves g p)

@@ -1,6 +1,6 @@
 -- A refusal's number is that of a fault, and no fault has a smaller one: the rest follows from these two.
 use Rattle.std.proofs.Common.{◌≡◌, ℕ, ◌<◌, ◌≤◌, Bool, true, false, ◌&&◌, eqb, ltb, leb, ◌≢◌, length, refl, ap, ◌∙◌, subst, ⊎_elim, arith}
-use Rattle.std.proofs.lemmas.Bool.{true≢false, both_ways, cases_lt, cond_both, cond_false, and_cases, ltb-true, ltb-false, leb-false, eqb-false, ne_eqb}
+use Rattle.std.proofs.lemmas.Bool.{true≢false, both_ways, cases_lt, cond_both, cond-false, and_cases, ltb-true, ltb-false, leb-false, eqb-false, ne_eqb}
 use Rattle.std.proofs.lemmas.Bool.Decides.{nat_tests}
 use Rattle.rules.specs.declared.Limits.{Limits}
 use Rattle.rules.specs.declared.Refusal.{Refusal}
@@ -131,7 +131,7 @@ said can l s c = record { number = refusal can l s c; place = refusal_place c (r
 
 answer_said : (can : Stage) (l : Limits) (s : State) (c : Call) → 0 < refusal can l s c → answer can l s c ≡ refused (said can l s c)
 unfolding answer
-answer_said can l s c pos = cond_false (eqb (refusal can l s c) 0) (reply l s c) (refused (said can l s c)) (ne_eqb _ 0 (λ e. omega arith))
+answer_said can l s c pos = cond-false (eqb (refusal can l s c) 0) (reply l s c) (refused (said can l s c)) (ne_eqb _ 0 (λ e. omega arith))
 
 same_refusal : (a b : Refusal) → refused a ≡ refused b → a ≡ b
 same_refusal a b e = cc
@@ -168,5 +168,5 @@ refused_by_a_known_number can l s c = ⊎_elim (λ pos. (told can l s (found can
 pub refused_changes_nothing : RefusedChangesNothing
 unfolding step
 refused_changes_nothing can l s c cs pos =
-    let same : step can l s c ≡ s = cond_false (eqb (refusal can l s c) 0) (next s c) s (ne_eqb _ 0 (λ e. omega arith)) in
+    let same : step can l s c ≡ s = cond-false (eqb (refusal can l s c) 0) (next s c) s (ne_eqb _ 0 (λ e. omega arith)) in
     (same, ap (λ after. answers can l after cs) same)

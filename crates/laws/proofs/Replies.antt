@@ -1,6 +1,6 @@
 -- What is answered to each call that is not refused, and what it changes.
 use Rattle.std.proofs.Common.{◌≡◌, ℕ, zero, suc, ◌<◌, true, false, not, ◌&&◌, leb, List, [], ◌∷◌, ◌++◌, length, get_or, take, set, sym, refl, ap, ◌∙◌, arith}
-use Rattle.std.proofs.lemmas.Bool.{cond_both, cond-true, cond_false, eq-eqb, le-leb, lt-leb, or_left, or_right, or_from}
+use Rattle.std.proofs.lemmas.Bool.{cond_both, cond-true, cond-false, eq-eqb, le-leb, lt-leb, or_left, or_right, or_from}
 use Rattle.std.proofs.lemmas.List.{length_push, length-set, get_or-set_same, take_at}
 use Rattle.rules.specs.declared.Move.{Move}
 use Rattle.rules.specs.declared.Limits.{Limits}
@@ -83,7 +83,7 @@ each_call_answered can l s =
       play = λ t m v e. replied can l s (Play t m v) e ∙ ap number (sym (one_more_played can l s t m v e));
       ticks = λ n e. replied can l s (Ticks n) e;
       see = λ t n e stands. replied can l s (See t) e ∙ rw (stands_end s.game (table_at s t) n stands);
-      may = λ t e stands. replied can l s (May t) e ∙ ap listed (cond_false _ _ _ (stands_over s.game (table_at s t) 0 stands));
+      may = λ t e stands. replied can l s (May t) e ∙ ap listed (cond-false _ _ _ (stands_over s.game (table_at s t) 0 stands));
       may_over = λ t e stands. replied can l s (May t) e ∙ ap listed (cond-true _ _ _ (stands_over s.game (table_at s t) 1 stands));
       may_by_time = λ t e stands. replied can l s (May t) e ∙ ap listed (cond-true _ _ _ (stands_over s.game (table_at s t) 2 stands));
       back = λ t vs ws parts e. looked_back t vs ws parts e;

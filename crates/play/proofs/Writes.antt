@@ -2,7 +2,7 @@
 use Rattle.std.proofs.Common.{◌≡◌, ℕ, ◌+◌, ◌-◌, ◌*◌, ◌<◌, ◌≤◌, leb, List, [], ◌∷◌, ◌++◌, length, take, set, Some, None, sym, refl, ap, ◌∙◌, inl, inr, append_assoc, append-nil, arith, length-append, length-take}
 use lib.Seq.{take-append-add}
 use Rattle.std.proofs.lemmas.List.{take-append-le}
-use Rattle.std.proofs.lemmas.Bool.{cases_Bool, leb-true, leb-false, cond-true, cond_false}
+use Rattle.std.proofs.lemmas.Bool.{cases_Bool, leb-true, leb-false, cond-true, cond-false}
 use Rattle.rules.specs.declared.Move.{Move}
 use Rattle.rules.specs.Calls.{listed}
 use Rattle.wire.specs.Numbers.{number_bytes}
@@ -30,7 +30,7 @@ unfolding room
 has_room i v old {n} e =
     elim (cases_Bool (leb (i + length (move_bytes v)) (length old))) [
       | inl t ↦ omega (arith, leb-true _ _ t, length_move v)
-      | inr t ↦ let x : Some n ≡ None = e ∙ cond_false _ _ _ t in let z : ◌≡◌ {A = ℕ} 0 1 = cc in absurd (omega arith)
+      | inr t ↦ let x : Some n ≡ None = e ∙ cond-false _ _ _ t in let z : ◌≡◌ {A = ℕ} 0 1 = cc in absurd (omega arith)
     ]
 
 lacks_room : (i : ℕ) (v : Move) (old : List ℕ) → None ≡ room i (move_bytes v) old → length old < i + 12

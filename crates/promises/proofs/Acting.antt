@@ -1,6 +1,6 @@
 -- What each call makes of a server's state, and what it answers, as functions of memory; and that they are right.
 use Rattle.std.proofs.Common.{◌≡◌, ℕ, ◌+◌, ◌<◌, ◌≤◌, Bool, true, false, cond, ◌&&◌, ◌||◌, eqb, ltb, List, [], length, get_or, take, drop, Ok, Err, Result, sym, refl, ap, ◌∙◌, subst}
-use Rattle.std.proofs.lemmas.Bool.{and_parts, ltb-true, lt-ltb, le-ltb, cond-true, cond_false}
+use Rattle.std.proofs.lemmas.Bool.{and_parts, ltb-true, lt-ltb, le-ltb, cond-true, cond-false}
 use Rattle.rules.specs.declared.Limits.{Limits}
 use Rattle.rules.specs.declared.Refusal.{Refusal}
 use Rattle.rules.specs.declared.Call.{Call}
@@ -99,7 +99,7 @@ module _ (rules w : List ℕ) (l : Limits) (s : State) (t : ℕ) where
   see_says : (r : Result Seat Refusal) → RightSeat w s t r → seen s.game w r ≡ answer stage l s (See t)
   unfolding reply refusal_place
   see_says (Err f) right =
-      ap refused right.0 ∙ sym (answer_by l s (See t) 4 (see_refusal ∙ cond_false (ltb t (length s.tables)) 0 4 (le-ltb t (length s.tables) right.1)))
+      ap refused right.0 ∙ sym (answer_by l s (See t) 4 (see_refusal ∙ cond-false (ltb t (length s.tables)) 0 4 (le-ltb t (length s.tables) right.1)))
   see_says (Ok q) right =
       (λ i. shown (right.cells i) (turn s.game (right.cells i)) (right.end i) (right.clocks i))
       ∙ sym (answer_by l s (See t) 0 (see_refusal ∙ cond-true (ltb t (length s.tables)) 0 4 (lt-ltb t (length s.tables) right.there)))
@@ -107,7 +107,7 @@ module _ (rules w : List ℕ) (l : Limits) (s : State) (t : ℕ) where
   may_says : (r : Result Seat Refusal) → RightSeat w s t r → moves_seen s.game w r ≡ answer stage l s (May t)
   unfolding reply refusal_place end_of
   may_says (Err f) right =
-      ap refused right.0 ∙ sym (answer_by l s (May t) 4 (may_refusal ∙ cond_false (ltb t (length s.tables)) 0 4 (le-ltb t (length s.tables) right.1)))
+      ap refused right.0 ∙ sym (answer_by l s (May t) 4 (may_refusal ∙ cond-false (ltb t (length s.tables)) 0 4 (le-ltb t (length s.tables) right.1)))
   may_says (Ok q) right =
       let u : Table = table_at s t in
       (λ i. listed (cond (eqb (right.end i) 0) (legal_moves s.game (right.cells i)) []))

@@ -1,6 +1,6 @@
 -- Each call does what the meaning says, and its answer is written.
 use Rattle.std.proofs.Common.{◌≡◌, ℕ, ◌+◌, ◌*◌, ◌<◌, ◌≤◌, Bool, true, false, cond, not, ◌||◌, eqb, ltb, List, [], ◌∷◌, length, get_or, take, drop, Ok, Err, Option, Result, sym, refl, ap, ◌∙◌, subst, arith, MatchOption}
-use Rattle.std.proofs.lemmas.Bool.{cond-true, cond_false, cond_both, lt-ltb, le-ltb, le-leb, eq-eqb, ne_eqb}
+use Rattle.std.proofs.lemmas.Bool.{cond-true, cond-false, cond_both, lt-ltb, le-ltb, le-leb, eq-eqb, ne_eqb}
 use Rattle.std.proofs.lemmas.Option.{MatchOption-at_some}
 use Rattle.rules.specs.declared.Limits.{Limits}
 use Rattle.rules.specs.declared.Refusal.{Refusal}
@@ -192,7 +192,7 @@ module _ (rules w a b : List ℕ) (t : ℕ) (r : Option ℕ) where
       let on : table_over s.game u ≡ false = going_by u.timed_out (is_over s.game u.cells) (sym x.end ∙ goes) in
       let same : cells ≡ u.cells = isc ∙ x.cells in
       let is : listed (legal_moves (game_at rules) cells) ≡ answer stage l s (May t) =
-      ap listed ((λ i. legal_moves (m.game i) (same i)) ∙ sym (cond_false (table_over s.game u) [] (legal_moves s.game u.cells) on))
+      ap listed ((λ i. legal_moves (m.game i) (same i)) ∙ sym (cond-false (table_over s.game u) [] (legal_moves s.game u.cells) on))
       ∙ may_there l s t x.there in (
         subst (λ y. r ≡ room 0 (answer_bytes y) a) is size,
         subst (λ y. length (answer_bytes y) ≤ length a → b ≡ written 0 (answer_bytes y) a) is bytes,

@@ -1,7 +1,7 @@
 -- An opening is refused just where it says so, and else memory is a server's.
 use Rattle.std.proofs.Common.{◌≡◌, ℕ, ◌+◌, ◌*◌, ◌<◌, ◌≤◌, Bool, true, false, cond, ◌&&◌, leb, List, length, get_or, Some, None, Ok, Err, Option, Result, sym, refl, ap, ◌∙◌, subst, arith}
 use borrow.Rule.Slice.PartMut.{put_mid}
-use Rattle.std.proofs.lemmas.Bool.{and_parts, and_from, and_left, and_right, leb-true, le-leb, lt-leb, cond-true, cond_false}
+use Rattle.std.proofs.lemmas.Bool.{and_parts, and_from, and_left, and_right, leb-true, le-leb, lt-leb, cond-true, cond-false}
 use Rattle.rules.specs.declared.Limits.{Limits}
 use Rattle.rules.specs.declared.Refusal.{Refusal}
 use Rattle.rules.specs.Rules.{Game}
@@ -44,7 +44,7 @@ pub too_short :
     (l : Limits) (bs : List ℕ) (m : Lent) (z : Sizes) → Ok z ≡ needed l bs → long_enough z m ≡ false
     → Err (record { number = 3; place = 2 }) ≡ opening_answer l bs m
 unfolding opening_answer
-too_short l bs m z e h = sym (cond_false (long_enough z m) (Ok z) _ h) ∙ ap (by_length m) e
+too_short l bs m z e h = sym (cond-false (long_enough z m) (Ok z) _ h) ∙ ap (by_length m) e
 
 -- what was needed was that of a size that checking told
 module _ (l : Limits) (bs : List ℕ) (m : Lent) (z : Sizes) (e : Ok z ≡ needed l bs) (long : long_enough z m ≡ true) where

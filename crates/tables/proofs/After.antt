@@ -1,7 +1,7 @@
 -- Memory after a move means the state after it.
 use Rattle.std.proofs.Common.{◌≡◌, ℕ, ◌+◌, ◌-◌, ◌*◌, ◌<◌, ◌≤◌, false, cond, eqb, ◌≢◌, ◌⊎◌, List, [], ◌∷◌, ◌++◌, length, get_or, set, sym, refl, ap, ◌∙◌, subst, inl, inr, add-one, arith, length-set}
 use Rattle.std.proofs.lemmas.List.{length_push, get_or-set_same, get_or-set_other, append-nil}
-use Rattle.std.proofs.lemmas.Bool.{cases_order, cases_eq, eq-eqb, ne_eqb, cond-true, cond_false}
+use Rattle.std.proofs.lemmas.Bool.{cases_order, cases_eq, eq-eqb, ne_eqb, cond-true, cond-false}
 use Rattle.rules.specs.declared.Move.{Move}
 use Rattle.rules.specs.declared.Limits.{Limits}
 use Rattle.rules.specs.declared.Call.TheVariants.{Play}
@@ -53,7 +53,7 @@ abbrev owner_after : (ℕ → ℕ) → ℕ → ℕ → ℕ → ℕ
 owner_after owner k t j = cond (eqb j k) t (owner j)
 
 owner_old : (owner : ℕ → ℕ) (k t j : ℕ) → j < k → owner_after owner k t j ≡ owner j
-owner_old owner k t j h = cond_false _ _ _ (ne_eqb j k (omega arith))
+owner_old owner k t j h = cond-false _ _ _ (ne_eqb j k (omega arith))
 
 owner_new : (owner : ℕ → ℕ) (k t : ℕ) → owner_after owner k t k ≡ t
 owner_new owner k t = cond-true _ _ _ (eq-eqb k k refl)

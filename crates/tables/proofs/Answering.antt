@@ -1,6 +1,6 @@
 -- What sitting down and looking at a table answer, check by check.
 use Rattle.std.proofs.Common.{◌≡◌, ℕ, ◌<◌, ◌≤◌, cond, ltb, List, Some, None, Ok, Err, sym, refl, ap, ◌∙◌, arith}
-use Rattle.std.proofs.lemmas.Bool.{ltb-true, cond-true, cond_false}
+use Rattle.std.proofs.lemmas.Bool.{ltb-true, cond-true, cond-false}
 use Rattle.rules.specs.Rules.{Game}
 use Rattle.tables.specs.declared.plan.Plan.{Plan}
 use Rattle.tables.specs.declared.acting.Seat.{Seat}
@@ -35,7 +35,7 @@ module _ (g : Game) (w : List ℕ) (ticks : ℕ) where
       (p : Plan) → Some p ≡ plan_of w → None ≡ cond (ltb p.seated p.tables) (Some (record_place p.cells p.seated)) None
       → sat g w ticks ≡ (w, Err (refused_by 8 0))
   unfolding sat
-  sat_full p e h = rw (← e) (cond_false _ _ _ (not_chosen _ _ h))
+  sat_full p e h = rw (← e) (cond-false _ _ _ (not_chosen _ _ h))
 
   pub sat_there :
       (p : Plan) (a : ℕ) → Some p ≡ plan_of w → Some a ≡ cond (ltb p.seated p.tables) (Some (record_place p.cells p.seated)) None
@@ -51,7 +51,7 @@ module _ (w : List ℕ) (t : ℕ) where
   pub seat_missing :
       (p : Plan) → Some p ≡ plan_of w → None ≡ cond (ltb t p.seated) (Some (record_place p.cells t)) None → Err (refused_by 4 0) ≡ seat_of w t
   unfolding seat_of
-  seat_missing p e h = rw (← e) (sym (cond_false _ _ _ (not_chosen _ _ h)))
+  seat_missing p e h = rw (← e) (sym (cond-false _ _ _ (not_chosen _ _ h)))
 
   pub seat_there :
       (p : Plan) (a : ℕ) (q : Seat) → Some p ≡ plan_of w → Some a ≡ cond (ltb t p.seated) (Some (record_place p.cells t)) None

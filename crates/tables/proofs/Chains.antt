@@ -1,6 +1,6 @@
 -- The entries of the moves that were played, and how those of one table name one another.
 use Rattle.std.proofs.Common.{◌≡◌, ℕ, zero, suc, ◌+◌, ◌-◌, ◌*◌, ◌<◌, ◌≤◌, Bool, true, false, cond, eqb, ◌≢◌, ◌⊎◌, List, [], ◌∷◌, length, sym, refl, ap, ◌∙◌, inl, inr, arith, length-append}
-use Rattle.std.proofs.lemmas.Bool.{cases_eq, eq-eqb, ne_eqb, cond-true, cond_false}
+use Rattle.std.proofs.lemmas.Bool.{cases_eq, eq-eqb, ne_eqb, cond-true, cond-false}
 use Rattle.rules.specs.declared.Move.{Move}
 use Rattle.tables.specs.Means.{move_in, moves_of, link_of}
 use Rattle.tables.proofs.Regions.{Same}
@@ -57,7 +57,7 @@ module _ (first from : ℕ) where
 
     pub link_before : (k : ℕ) → (owner k ≡ t → ⊥) → link_of first from owner t (suc k) ≡ link_of first from owner t k
     unfolding link_of
-    link_before k e = cond_false _ _ _ (ne_eqb (owner k) t e)
+    link_before k e = cond-false _ _ _ (ne_eqb (owner k) t e)
 
     -- a table with no entry yet is named in its own record
     pub link_first : (k : ℕ) → ((j : ℕ) → j < k → owner j ≡ t → ⊥) → link_of first from owner t k ≡ first

@@ -1,7 +1,7 @@
 -- What is asked for an opening, and what it leaves.
 use Rattle.std.proofs.Common.{◌≡◌, ℕ, ◌+◌, ◌*◌, ◌<◌, ◌≤◌, true, false, ◌&&◌, leb, List, [], ◌∷◌, length, Some, None, sym, ap, subst, arith}
 use borrow.Rule.Slice.PartMut.{put_mid}
-use Rattle.std.proofs.lemmas.Bool.{and_parts, and_from, and_left, and_right, cond-true, cond_false, le-leb, lt-leb}
+use Rattle.std.proofs.lemmas.Bool.{and_parts, and_from, and_left, and_right, cond-true, cond-false, le-leb, lt-leb}
 use Rattle.std.proofs.lemmas.Nat.{mul-le}
 use Rattle.rules.specs.declared.Limits.{Limits}
 use Rattle.rules.specs.Bounds.{good_limits}
@@ -15,11 +15,11 @@ use Rattle.tables.proofs.Bounded.{Few, few, Small, small}
 
 pub many : (l : Limits) (z : GameSize) → false ≡ good_limits l → None ≡ sizes_for l z
 unfolding sizes_for
-many l z e = sym (cond_false _ _ _ (and_left (good_limits l) (good_size z) (sym e)))
+many l z e = sym (cond-false _ _ _ (and_left (good_limits l) (good_size z) (sym e)))
 
 pub large : (l : Limits) (z : GameSize) → false ≡ good_size z → None ≡ sizes_for l z
 unfolding sizes_for
-large l z e = sym (cond_false _ _ _ (and_right (good_limits l) (good_size z) (sym e)))
+large l z e = sym (cond-false _ _ _ (and_right (good_limits l) (good_size z) (sym e)))
 
 pub both_good : (l : Limits) (z : GameSize) → true ≡ good_limits l → true ≡ good_size z → Some (sizes_of l z) ≡ sizes_for l z
 unfolding sizes_for
@@ -59,14 +59,14 @@ asked l z q e =
 pub not_opened : (l : Limits) (z : GameSize) (w : List ℕ) → None ≡ sizes_for l z → opening l z w ≡ (w, false)
 unfolding sizes_for opening
 not_opened l z w e =
-    cond_false _ _ _ (and_left (good_limits l && good_size z) (leb (sizes_of l z).state (length w)) (not_chosen (good_limits l && good_size z) (sizes_of l z) e))
+    cond-false _ _ _ (and_left (good_limits l && good_size z) (leb (sizes_of l z).state (length w)) (not_chosen (good_limits l && good_size z) (sizes_of l z) e))
 
 pub too_short : (l : Limits) (z : GameSize) (w : List ℕ) (q : Sizes) → Some q ≡ sizes_for l z → length w < q.state → opening l z w ≡ (w, false)
 unfolding opening
 too_short l z w q e h =
     let a = asked l z q e in
     let less : length w < (sizes_of l z).state = subst (λ x. length w < x.state) a.is h in
-    cond_false _ _ _ (and_right (good_limits l && good_size z) (leb (sizes_of l z).state (length w)) (lt-leb _ _ less))
+    cond-false _ _ _ (and_right (good_limits l && good_size z) (leb (sizes_of l z).state (length w)) (lt-leb _ _ less))
 
 pub opens : (l : Limits) (z : GameSize) (w : List ℕ) (q : Sizes) → Some q ≡ sizes_for l z → q.state ≤ length w → opening l z w ≡ (opened_in w l z, true)
 unfolding opening

@@ -1,6 +1,6 @@
 -- What memory's header says of it.
 use Rattle.std.proofs.Common.{◌≡◌, ℕ, ◌+◌, ◌<◌, ◌≤◌, true, false, ◌&&◌, eqb, leb, List, length, get_or, Some, None, sym, arith}
-use Rattle.std.proofs.lemmas.Bool.{and_from, and_left, and_right, and_parts, cond-true, cond_false, le-leb, lt-leb, leb-true, eq-eqb, ne_eqb}
+use Rattle.std.proofs.lemmas.Bool.{and_from, and_left, and_right, and_parts, cond-true, cond-false, le-leb, lt-leb, leb-true, eq-eqb, ne_eqb}
 use Rattle.tables.specs.declared.plan.Plan.{Plan}
 use Rattle.tables.specs.Layout.{mark, record_place, state_words, plan_in, good_plan, plan_of}
 use Rattle.tables.specs.Inner.{Roomy, InState}
@@ -10,16 +10,16 @@ use Rattle.tables.proofs.Choosing.{chosen}
 
 pub no_header : (w : List ℕ) → length w < 16 → None ≡ plan_of w
 unfolding plan_of
-no_header w h = sym (cond_false _ _ _ (and_left (leb 16 (length w) && eqb (get_or w 0 0) mark) (good_plan (plan_in w) (length w)) (and_left _ _ (lt-leb _ _ h))))
+no_header w h = sym (cond-false _ _ _ (and_left (leb 16 (length w) && eqb (get_or w 0 0) mark) (good_plan (plan_in w) (length w)) (and_left _ _ (lt-leb _ _ h))))
 
 pub no_mark : (w : List ℕ) → (get_or w 0 0 ≡ mark → ⊥) → None ≡ plan_of w
 unfolding plan_of
 no_mark w h =
-    sym (cond_false _ _ _ (and_left (leb 16 (length w) && eqb (get_or w 0 0) mark) (good_plan (plan_in w) (length w)) (and_right (leb 16 (length w)) _ (ne_eqb _ _ h))))
+    sym (cond-false _ _ _ (and_left (leb 16 (length w) && eqb (get_or w 0 0) mark) (good_plan (plan_in w) (length w)) (and_right (leb 16 (length w)) _ (ne_eqb _ _ h))))
 
 pub no_plan : (w : List ℕ) → false ≡ good_plan (plan_in w) (length w) → None ≡ plan_of w
 unfolding plan_of
-no_plan w h = sym (cond_false _ _ _ (and_right (leb 16 (length w) && eqb (get_or w 0 0) mark) (good_plan (plan_in w) (length w)) (sym h)))
+no_plan w h = sym (cond-false _ _ _ (and_right (leb 16 (length w) && eqb (get_or w 0 0) mark) (good_plan (plan_in w) (length w)) (sym h)))
 
 pub a_plan : (w : List ℕ) → 16 ≤ length w → get_or w 0 0 ≡ mark → true ≡ good_plan (plan_in w) (length w) → Some (plan_in w) ≡ plan_of w
 unfolding plan_of

@@ -1,7 +1,7 @@
 -- Opening, sitting down, playing and looking at a table are right.
 use Rattle.std.proofs.Common.{◌≡◌, ℕ, suc, ◌+◌, ◌-◌, ◌<◌, ◌≤◌, Bool, true, false, cond, not, ◌||◌, eqb, ltb, List, [], ◌∷◌, length, get_or, Ok, Err, sym, refl, ap, ◌∙◌, subst, inl, inr, arith}
 use borrow.Rule.Slice.PartMut.{put_mid}
-use Rattle.std.proofs.lemmas.Bool.{cases_lt, ltb-true, lt-ltb, le-ltb, le-leb, and_from, cond-true, cond_false}
+use Rattle.std.proofs.lemmas.Bool.{cases_lt, ltb-true, lt-ltb, le-ltb, le-leb, and_from, cond-true, cond-false}
 use Rattle.rules.specs.declared.Move.{Move}
 use Rattle.rules.specs.declared.Limits.{Limits}
 use Rattle.rules.specs.declared.Call.TheVariants.{Sit, Play}
@@ -48,8 +48,8 @@ sitting_is_right rules w l s ticks m h =
           (λ k q. sat_above s.game w (the_plan l s) ticks z.players fits k (omega arith)))
       | inr full ↦
           let none = le-ltb _ _ full in
-          subst (λ o. RightOutcome rules w l s (Sit ticks) o) (sym (sat_is rules w l s ticks m ∙ cond_false _ _ _ none))
-          (kept_right rules w l s (Sit ticks) 8 m (refusal_sit l s ticks h ∙ cond_false _ _ _ none) (omega arith))
+          subst (λ o. RightOutcome rules w l s (Sit ticks) o) (sym (sat_is rules w l s ticks m ∙ cond-false _ _ _ none))
+          (kept_right rules w l s (Sit ticks) 8 m (refusal_sit l s ticks h ∙ cond-false _ _ _ none) (omega arith))
     ]
 
 -- looking at a table
@@ -70,7 +70,7 @@ seats_are_right rules w l s t m =
           let u = m.each t there in
           subst (λ o. RightSeat w s t o) (sym (seat_is rules w l s t m ∙ cond-true _ _ _ (lt-ltb _ _ there)))
           (record { there = there; cells = u.cells; clocks = u.clocks; end = u.end; played = u.count; inside = omega (arith, m.room) })
-      | inr none ↦ subst (λ o. RightSeat w s t o) (sym (seat_is rules w l s t m ∙ cond_false _ _ _ (le-ltb _ _ none))) (refl, none)
+      | inr none ↦ subst (λ o. RightSeat w s t o) (sym (seat_is rules w l s t m ∙ cond-false _ _ _ (le-ltb _ _ none))) (refl, none)
     ]
 
 -- playing
@@ -140,11 +140,11 @@ module _ (rules w : List ℕ) (l : Limits) (s : State) (t p : ℕ) (v : Move) (m
 
   no_table_there : length s.tables ≤ t → refusal all_calls l s (Play t p v) ≡ 4
   unfolding refusal call_number good_fields refusal_of
-  no_table_there none = cond_false _ _ _ (le-ltb _ _ none)
+  no_table_there none = cond-false _ _ _ (le-ltb _ _ none)
 
   played_nowhere_there : length s.tables ≤ t → played s.game w t p v ≡ (w, Err (refused_by 4 0))
   unfolding played_at
-  played_nowhere_there none = played_is ∙ cond_false _ _ _ (le-ltb _ _ none)
+  played_nowhere_there none = played_is ∙ cond-false _ _ _ (le-ltb _ _ none)
 
   move_right :
       t < length s.tables → total_played s.tables < l.moves → refusal all_calls l s (Play t p v) ≡ 0 → RightOutcome rules w l s (Play t p v) done

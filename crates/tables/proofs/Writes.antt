@@ -2,7 +2,7 @@
 use Rattle.std.proofs.Common.{◌≡◌, ℕ, ◌+◌, Bool, true, cond, eqb, ltb, List, [], ◌∷◌, ◌++◌, length, get_or, take, drop, set, Some, None, Ok, Err, sym, refl, ap, ◌∙◌, arith, length-set, length-take}
 use borrow.Rule.Slice.PartMut.{put_mid}
 use Rattle.std.proofs.lemmas.List.{take_at}
-use Rattle.std.proofs.lemmas.Bool.{cond-true, cond_false}
+use Rattle.std.proofs.lemmas.Bool.{cond-true, cond-false}
 use Rattle.rules.specs.declared.Move.{Move}
 use Rattle.rules.specs.Rules.{Position, Effect, Game, eval, turn, is_legal, apply_effects, apply}
 use Rattle.rules.specs.Play.{is_over}
@@ -48,7 +48,7 @@ move_added g w row x y p a k e link v ek ee el er ex ey = rw (ey, ex, er, el, ek
 module _ (g : Game) (w : List ℕ) (p : Plan) (t m : ℕ) (v : Move) where
   pub no_such_table : None ≡ cond (ltb t p.seated) (Some (record_place p.cells t)) None → played_at g w p t m v ≡ (w, Err (refused_by 4 0))
   unfolding played_at
-  no_such_table h = cond_false _ _ _ (not_chosen _ _ h)
+  no_such_table h = cond-false _ _ _ (not_chosen _ _ h)
 
   module _ (a : ℕ) (h : Some a ≡ cond (ltb t p.seated) (Some (record_place p.cells t)) None) where
     there : ltb t p.seated ≡ true
@@ -60,7 +60,7 @@ module _ (g : Game) (w : List ℕ) (p : Plan) (t m : ℕ) (v : Move) where
     pub is_at_end :
         None ≡ cond (eqb (get_or w (a + p.cells + 5) 0) 0) (Some (get_or w (a + p.cells + 6) 0)) None → played_at g w p t m v ≡ (w, Err (refused_by 5 0))
     unfolding played_at
-    is_at_end f = cond-true _ _ _ there ∙ cond_false _ _ _ (rw place at (not_chosen (eqb (get_or w (a + p.cells + 5) 0) 0) (get_or w (a + p.cells + 6) 0) f))
+    is_at_end f = cond-true _ _ _ there ∙ cond-false _ _ _ (rw place at (not_chosen (eqb (get_or w (a + p.cells + 5) 0) 0) (get_or w (a + p.cells + 6) 0) f))
 
     module _ (count : ℕ) (f : Some count ≡ cond (eqb (get_or w (a + p.cells + 5) 0) 0) (Some (get_or w (a + p.cells + 6) 0)) None) where
       goes_on : eqb (get_or w (record_place p.cells t + p.cells + 5) 0) 0 ≡ true
@@ -78,7 +78,7 @@ module _ (g : Game) (w : List ℕ) (p : Plan) (t m : ℕ) (v : Move) where
         unfolding played_at
         not_their_turn i =
             cond-true _ _ _ there ∙ (cond-true _ _ _ goes_on
-            ∙ cond_false _ _ _ (ap (λ q. eqb m (turn g q)) (sym cells_at) ∙ not_chosen (eqb m (turn g (take k (drop a w)))) m i))
+            ∙ cond-false _ _ _ (ap (λ q. eqb m (turn g q)) (sym cells_at) ∙ not_chosen (eqb m (turn g (take k (drop a w)))) m i))
 
         module _ (me : ℕ) (i : Some me ≡ cond (eqb m (turn g (take k (drop a w)))) (Some m) None) where
           their_turn : eqb m (turn g (take p.cells (drop (record_place p.cells t) w))) ≡ true
@@ -88,7 +88,7 @@ module _ (g : Game) (w : List ℕ) (p : Plan) (t m : ℕ) (v : Move) where
           unfolding played_at
           not_legal j =
               cond-true _ _ _ there ∙ (cond-true _ _ _ goes_on ∙ (cond-true _ _ _ their_turn
-              ∙ cond_false _ _ _ (ap (λ q. is_legal g q v) (sym cells_at) ∙ not_chosen (is_legal g (take k (drop a w)) v) v j)))
+              ∙ cond-false _ _ _ (ap (λ q. is_legal g q v) (sym cells_at) ∙ not_chosen (is_legal g (take k (drop a w)) v) v j)))
 
           module _ (u : Move) (j : Some u ≡ cond (is_legal g (take k (drop a w)) v) (Some v) None) where
             legal : is_legal g (take p.cells (drop (record_place p.cells t) w)) v ≡ true
@@ -100,7 +100,7 @@ module _ (g : Game) (w : List ℕ) (p : Plan) (t m : ℕ) (v : Move) where
             unfolding played_at
             too_many l =
                 cond-true _ _ _ there ∙ (cond-true _ _ _ goes_on ∙ (cond-true _ _ _ their_turn ∙ (cond-true _ _ _ legal
-                ∙ cond_false _ _ _ (not_chosen (ltb p.played p.moves) (entry_place p.cells p.tables p.played) l))))
+                ∙ cond-false _ _ _ (not_chosen (ltb p.played p.moves) (entry_place p.cells p.tables p.played) l))))
 
             pub move_there :
                 (e : ℕ) → Some e ≡ cond (ltb p.played p.moves) (Some (entry_place p.cells p.tables p.played)) None

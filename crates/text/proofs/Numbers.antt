@@ -1,7 +1,7 @@
 -- A word by itself is the number that its digits come to, if the digits are all of it.
 use Rattle.std.proofs.Common.{◌≡◌, ℕ, ◌+◌, ◌<◌, ◌≤◌, Bool, true, false, cond, ◌&&◌, ltb, List, [], ◌∷◌, ◌++◌, length, Some, None, Result, sym, ap, ◌∙◌, subst, inl, inr, append-nil, arith}
 use Rattle.std.proofs.lemmas.List.{append_assoc, length-append, nil_from_length}
-use Rattle.std.proofs.lemmas.Bool.{cases_Bool, cases_lt, cond-true, cond_false, and_from, and_left, and_right, lt-ltb, le-ltb}
+use Rattle.std.proofs.lemmas.Bool.{cases_Bool, cases_lt, cond-true, cond-false, and_from, and_left, and_right, lt-ltb, le-ltb}
 use Rattle.text.specs.Grammar.{digit, all, value_from, number_of}
 use Rattle.text.specs.Reader.{digits_at}
 use Rattle.text.proofs.Splits.{all_right, all_none, value_append, value_grows}
@@ -16,7 +16,7 @@ passes bs = ltb 0 (length bs) && (all digit bs && ltb (value_from 0 bs) 42949672
 
 fails : (bs : List ℕ) → passes bs ≡ false → None ≡ number_of bs
 unfolding number_of
-fails bs e = sym (cond_false (passes bs) (Some (value_from 0 bs)) None e)
+fails bs e = sym (cond-false (passes bs) (Some (value_from 0 bs)) None e)
 
 pub number_whole : (bs : List ℕ) (v j : ℕ) → SomeDigits bs 0 0 v j → 0 < j → length bs ≤ j → Some v ≡ number_of bs
 unfolding number_of

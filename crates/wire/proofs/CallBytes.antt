@@ -1,8 +1,8 @@
 -- Calls come back from their bytes and bytes from their calls, and a refusal's place is as far as the bytes can be those of a call.
 use Rattle.std.proofs.Common.{◌≡◌, ℕ, zero, suc, ◌+◌, ◌-◌, ◌*◌, ◌<◌, ◌≤◌, min, true, eqb, ltb, ◌⊎◌, List, [], ◌∷◌, ◌++◌, length, get_or, take, replicate, Ok, Err, sym, refl, ap, ◌∙◌, subst, inl, inr, ⊎_elim, arith, length-append, length-take}
-use mathlib.Core.Bool.{and_true, and_assoc}
+use mathlib.Core.Bool.{and-true, and_assoc}
 use lib.ListN.{length-replicate}
-use Rattle.std.proofs.lemmas.Bool.{cond-true, cond_false, lt-ltb, le-ltb, eq-eqb, ne_eqb, cases_lt, cases_eq}
+use Rattle.std.proofs.lemmas.Bool.{cond-true, cond-false, lt-ltb, le-ltb, eq-eqb, ne_eqb, cases_lt, cases_eq}
 use Rattle.std.proofs.lemmas.List.{append-nil, drop_all, length-take-le}
 use Rattle.rules.specs.declared.Call.{Call}
 use Rattle.rules.specs.declared.Call.TheVariants.{Sit, Play, Ticks, See, May, Back, CanForce}
@@ -15,13 +15,13 @@ use Rattle.wire.proofs.FieldLists.{fields_split, fields_fit, fields_back, length
 -- a call is readable if its fields fit
 readable_is : (c : Call) → readable c ≡ all_below 4294967296 (call_fields c)
 unfolding readable call_fields all_below
-readable_is (Sit n) = simp and_true
-readable_is (Play t m v) = simp (and_assoc, and_true)
-readable_is (Ticks n) = simp and_true
-readable_is (See t) = simp and_true
-readable_is (May t) = simp and_true
-readable_is (Back t n) = simp (and_assoc, and_true)
-readable_is (CanForce t m k d) = simp (and_assoc, and_true)
+readable_is (Sit n) = simp and-true
+readable_is (Play t m v) = simp (and_assoc, and-true)
+readable_is (Ticks n) = simp and-true
+readable_is (See t) = simp and-true
+readable_is (May t) = simp and-true
+readable_is (Back t n) = simp (and_assoc, and-true)
+readable_is (CanForce t m k d) = simp (and_assoc, and-true)
 
 -- the kind of a call is known, and says how many fields it has
 call_form : (c : Call) → (call_number c ≤ 6) × (length (call_fields c) ≡ field_count (call_number c)) × (call_of (call_number c) (call_fields c) ≡ c)
@@ -62,13 +62,13 @@ pub parse_whole :
     (k : ℕ) (bs : List ℕ) → k ≤ 6 → suc (length bs) ≡ 1 + 4 * field_count k
     → parse_call (k ∷ bs) ≡ Ok (call_of k (fields_at (k ∷ bs) 1 (field_count k)))
 unfolding parse_call
-parse_whole k bs h e = cond_false (ltb 6 k) _ _ (le-ltb 6 k h) ∙ cond-true (eqb (suc (length bs)) (1 + 4 * field_count k)) _ _ (eq-eqb _ _ e)
+parse_whole k bs h e = cond-false (ltb 6 k) _ _ (le-ltb 6 k h) ∙ cond-true (eqb (suc (length bs)) (1 + 4 * field_count k)) _ _ (eq-eqb _ _ e)
 
 pub parse_part :
     (k : ℕ) (bs : List ℕ) → k ≤ 6 → (suc (length bs) ≡ 1 + 4 * field_count k → ⊥)
     → parse_call (k ∷ bs) ≡ Err (min (suc (length bs)) (1 + 4 * field_count k))
 unfolding parse_call
-parse_part k bs h e = cond_false (ltb 6 k) _ _ (le-ltb 6 k h) ∙ cond_false (eqb (suc (length bs)) (1 + 4 * field_count k)) _ _ (ne_eqb _ _ e)
+parse_part k bs h e = cond-false (ltb 6 k) _ _ (le-ltb 6 k h) ∙ cond-false (eqb (suc (length bs)) (1 + 4 * field_count k)) _ _ (ne_eqb _ _ e)
 
 ways : (k n : ℕ) → (6 < k) ⊎ (((k ≤ 6) × (n ≡ 1 + 4 * field_count k)) ⊎ ((k ≤ 6) × (n ≡ 1 + 4 * field_count k → ⊥)))
 ways k n =

@@ -1,6 +1,6 @@
 -- From what was found in bytes to the answer.
 use Rattle.std.proofs.Common.{◌≡◌, ℕ, zero, suc, ◌<◌, ◌≤◌, Bool, true, false, cond, ◌&&◌, ltb, leb, List, [], ◌∷◌, length, get_or, Some, None, Ok, Err, Result, sym, refl, ap, ◌∙◌, arith}
-use Rattle.std.proofs.lemmas.Bool.{and_parts, and_from, lt-ltb, cond-true, cond_false}
+use Rattle.std.proofs.lemmas.Bool.{and_parts, and_from, lt-ltb, cond-true, cond-false}
 use Rattle.rules.specs.declared.Refusal.{Refusal}
 use Rattle.rules.specs.Rules.{Game}
 use Rattle.rules.specs.Bounds.{all_below, fits_depth, game_parts, possible_moves, good_rules, good_game}
@@ -52,7 +52,7 @@ module _ (bs : List ℕ) (f : Found) (g : Game) (all : all_below 256 bs ≡ true
   answered = ap checked_game found.reads ∙ ap (λ t. cond t (Ok (size_of g)) (Err (record { number = 3; place = 1 }))) (sym limits_good)
 
   pub not_good : in_limits f ≡ false → Err (record { number = 3; place = 1 }) ≡ checked bs
-  not_good h = sym (answered ∙ cond_false _ _ _ h)
+  not_good h = sym (answered ∙ cond-false _ _ _ h)
 
   pub is_good :
       in_limits f ≡ true

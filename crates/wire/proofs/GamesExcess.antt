@@ -1,6 +1,6 @@
 -- From what was found in bytes to the limit that a game breaks.
 use Rattle.std.proofs.Common.{◌≡◌, ℕ, ◌+◌, ◌-◌, ◌*◌, ◌<◌, ◌≤◌, true, false, cond, ltb, List, [], ◌∷◌, length, drop, Some, None, Option, sym, refl, ap, ◌∙◌, arith}
-use Rattle.std.proofs.lemmas.Bool.{lt-ltb, le-ltb, cond-true, cond_false}
+use Rattle.std.proofs.lemmas.Bool.{lt-ltb, le-ltb, cond-true, cond-false}
 use Rattle.rules.specs.Rules.{Rule, Game}
 use Rattle.rules.specs.Bounds.{all_below, good_game}
 use Rattle.wire.specs.declared.games.Walk.{Walk}
@@ -46,7 +46,7 @@ module _ (bs : List ℕ) (i n k : ℕ) (us : List Rule) (q : List ℕ) (reads : 
           past_first_bound =
               let e : a ≡ u.first_bound = first ∙ one.first in
               let is : b ≡ u.second_bound = second ∙ one.second in
-              ap (bound_excess k) (sym others.2) ∙ cond_false _ _ _ (le-ltb 256 u.first_bound (omega (arith, e)))
+              ap (bound_excess k) (sym others.2) ∙ cond-false _ _ _ (le-ltb 256 u.first_bound (omega (arith, e)))
               ∙ ap (λ x. cond (ltb 256 x) (Some (SecondBound k x)) (bound_excess (k + 1) others.0)) (sym is)
 
           pub second_large : 256 < b → Some (SecondBound k b) ≡ bound_excess k us
@@ -55,7 +55,7 @@ module _ (bs : List ℕ) (i n k : ℕ) (us : List Rule) (q : List ℕ) (reads : 
           pub neither_large :
               b ≤ 256 → (r : Option Excess) → ((vs : List Rule) (p : List ℕ) → read_rules (n - 1) (drop w.end bs) ≡ got vs p → r ≡ bound_excess (k + 1) vs)
               → r ≡ bound_excess k us
-          neither_large h r more = more others.0 q others.1 ∙ sym (past_first_bound ∙ cond_false _ _ _ (le-ltb 256 b h))
+          neither_large h r more = more others.0 q others.1 ∙ sym (past_first_bound ∙ cond-false _ _ _ (le-ltb 256 b h))
 
 module _ (bs : List ℕ) (f : Found) (g : Game) (all : all_below 256 bs ≡ true) (found : GameIn bs f g) where
   pub nothing_broken : in_limits f ≡ true → None ≡ excess_of (parse_game bs)
@@ -65,7 +65,7 @@ module _ (bs : List ℕ) (f : Found) (g : Game) (all : all_below 256 bs ≡ true
   module _ (not-Good : in_limits f ≡ false) where
     broken : excess_of (parse_game bs) ≡ Some (excess g)
     unfolding excess_of
-    broken = ap excess_of found.reads ∙ cond_false _ _ _ (sym (limits_good bs f g all found) ∙ not-Good)
+    broken = ap excess_of found.reads ∙ cond-false _ _ _ (sym (limits_good bs f g all found) ∙ not-Good)
 
     abbrev counts : Option Excess
     counts = count_excess f.players f.cells f.rules f.moves f.parts

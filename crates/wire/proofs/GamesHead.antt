@@ -1,6 +1,6 @@
 -- The first bytes of an expression at a place of the bytes.
 use Rattle.std.proofs.Common.{◌≡◌, ℕ, zero, suc, ◌+◌, ◌-◌, ◌*◌, ◌<◌, ◌≤◌, Bool, true, false, cond, ltb, List, [], ◌∷◌, ◌++◌, length, get_or, take, drop, sym, refl, ap, ◌∙◌, subst, arith}
-use Rattle.std.proofs.lemmas.Bool.{cond-true, cond_false, lt-ltb, le-ltb}
+use Rattle.std.proofs.lemmas.Bool.{cond-true, cond-false, lt-ltb, le-ltb}
 use Rattle.std.proofs.lemmas.List.{drop_all, drop_more, length-drop}
 use Rattle.rules.specs.Rules.{Expr, Num}
 use Rattle.rules.specs.Bounds.{fits_depth, expr_parts}
@@ -70,7 +70,7 @@ module _ (bs : List ℕ) (i : ℕ) (some : i < length bs) where
   unfolding read_exprs
   unknown_kind h m =
       let k : ℕ = get_or bs i 0 - 1 in
-      ap (read_exprs (suc m)) (after_zero k (omega arith)) ∙ cond_false _ _ _ (le-ltb k 12 (omega arith))
+      ap (read_exprs (suc m)) (after_zero k (omega arith)) ∙ cond-false _ _ _ (le-ltb k 12 (omega arith))
 
   pub kind_head : (n : ℕ) → 1 ≤ get_or bs i 0 → get_or bs i 0 ≤ 12 → n ≡ (kind_after (get_or bs i 0 - 1)).arity → n ≤ 3 → (k : Kind) × Begins bs i (i + 1) n k
   unfolding read_exprs

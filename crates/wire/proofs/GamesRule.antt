@@ -1,6 +1,6 @@
 -- A rule at a place of the bytes, step by step.
 use Rattle.std.proofs.Common.{◌≡◌, ℕ, zero, suc, ◌+◌, ◌-◌, ◌*◌, ◌<◌, ◌≤◌, Bool, true, false, cond, ◌&&◌, ltb, leb, List, [], ◌∷◌, ◌++◌, length, get_or, take, drop, sym, refl, ap, ◌∙◌, subst, ⊎_elim, mul-le-mul, arith}
-use Rattle.std.proofs.lemmas.Bool.{cond-true, cond_false, le-leb, lt-leb, cases_lt}
+use Rattle.std.proofs.lemmas.Bool.{cond-true, cond-false, le-leb, lt-leb, cases_lt}
 use Rattle.std.proofs.lemmas.List.{drop_more, drop-drop, length-drop}
 use Rattle.rules.specs.Rules.{Expr, Effect, Rule}
 use Rattle.rules.specs.Bounds.{fits_depth, expr_parts, effect_parts, rule_parts, possible_moves, good_effects, good_rules}
@@ -39,7 +39,7 @@ number_at w bs i h =
 
 pub number_short : (w : ℕ) (bs : List ℕ) (i : ℕ) → length bs - i < w → read_number w (drop i bs) ≡ unreadable
 unfolding read_number
-number_short w bs i h = cond_false _ _ _ (lt-leb w (length (drop i bs)) (omega (arith, length-drop i bs)))
+number_short w bs i h = cond-false _ _ _ (lt-leb w (length (drop i bs)) (omega (arith, length-drop i bs)))
 
 -- what is read, one part of a rule after the other
 abbrev rule_of : ℕ → ℕ → List Expr → List Expr → Rule

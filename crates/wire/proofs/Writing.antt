@@ -1,6 +1,6 @@
 -- Bytes written over others: what does not fit changes nothing, and what is written in turn stands there together.
 use Rattle.std.proofs.Common.{◌≡◌, ℕ, ◌+◌, ◌*◌, ◌<◌, ◌≤◌, List, [], ◌∷◌, ◌++◌, length, get_or, take, drop, set, Some, None, sym, refl, ap, ◌∙◌, ⊎_elim, zero-add, add-one, arith, length-append, length-drop}
-use Rattle.std.proofs.lemmas.Bool.{cond-true, cond_false, le-leb, lt-leb, cases_lt}
+use Rattle.std.proofs.lemmas.Bool.{cond-true, cond-false, le-leb, lt-leb, cases_lt}
 use Rattle.std.proofs.lemmas.List.{append_assoc, take-append-drop, length-take-le, take_at, take-append-le, take-take, take_more, drop_at, drop-drop, set_split}
 use Rattle.wire.specs.Numbers.{number_bytes}
 use Rattle.wire.specs.Fields.{fields_bytes, written, room}
@@ -8,7 +8,7 @@ use Rattle.wire.proofs.FieldLists.{one_field, length_fields_bytes, fields_append
 
 pub written_none : (i : ℕ) (bs old : List ℕ) → length old < i + length bs → written i bs old ≡ old
 unfolding written
-written_none i bs old h = cond_false _ _ _ (lt-leb _ _ h)
+written_none i bs old h = cond-false _ _ _ (lt-leb _ _ h)
 
 pub written_is : (i : ℕ) (bs old : List ℕ) → i + length bs ≤ length old → written i bs old ≡ take i old ++ (bs ++ drop (i + length bs) old)
 unfolding written
@@ -100,7 +100,7 @@ field_then i j n ns old at room =
 -- whether there is room
 pub no_room : (i : ℕ) (bs old : List ℕ) → length old < i + length bs → None ≡ room i bs old
 unfolding room
-no_room i bs old h = sym (cond_false _ _ _ (lt-leb _ _ h))
+no_room i bs old h = sym (cond-false _ _ _ (lt-leb _ _ h))
 
 pub room_for : (i n : ℕ) (bs old : List ℕ) → length bs ≡ n → i + n ≤ length old → Some n ≡ room i bs old
 unfolding room
