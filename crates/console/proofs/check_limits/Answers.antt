@@ -4,5 +4,5 @@ use Rattle.console.proofs.check_limits.Goals as goal
 
 pub returns : goal.returns
 returns c h =
-    c.check-limit-3.ensures
-    (last_too_large c.args.limits h (λ t. false≢true (c.in-ok-check-limit.ensures t)) (λ m. false≢true (c.in-ok-check-limit-2.ensures m)))
+    c.check_limit-3.ensures
+    (last_too_large c.args.limits h (λ t. false≢true (c.in_ok-check_limit.ensures t)) (λ m. false≢true (c.in_ok-check_limit-2.ensures m)))

@@ -22,49 +22,49 @@ returns-in-Me t c = sym (by_row c.args.cells.now c.args.first c.args.second c.ar
 
 pub returns-in-Cell : goal.returns-in-Cell
 returns-in-Cell t c =
-    of_two (λ u v. get_or c.args.cells.now u 0) c.word-at.ensures c.eval-within-x.ensures c.eval-within-x.ensures
+    of_two (λ u v. get_or c.args.cells.now u 0) c.word_at.ensures c.eval_within-x.ensures c.eval_within-x.ensures
     (by_row c.args.cells.now c.args.first c.args.second c.args.me _ _ _ _ c.in-Cell.ensures c.if-levels-eq0.false)
 
 pub returns-in-Add : goal.returns-in-Add
 returns-in-Add t c =
-    of_two (λ u v. capped (u + v)) c.sum.ensures c.eval-within-x-in-Add.ensures c.eval-within-y.ensures
+    of_two (λ u v. capped (u + v)) c.sum.ensures c.eval_within-x-in-Add.ensures c.eval_within-y.ensures
     (by_row c.args.cells.now c.args.first c.args.second c.args.me _ _ _ _ c.in-Add.ensures c.if-levels-eq0.false)
 
 pub returns-in-Sub : goal.returns-in-Sub
 returns-in-Sub t c =
-    of_two (λ u v. u - v) c.saturating-sub.ensures c.eval-within-x-in-Sub.ensures c.eval-within-y-in-Sub.ensures
+    of_two (λ u v. u - v) c.saturating_sub.ensures c.eval_within-x-in-Sub.ensures c.eval_within-y-in-Sub.ensures
     (by_row c.args.cells.now c.args.first c.args.second c.args.me _ _ _ _ c.in-Sub.ensures c.if-levels-eq0.false)
 
 pub returns-in-Div : goal.returns-in-Div
 returns-in-Div t c =
-    of_two (quotient) c.divided.ensures c.eval-within-x-in-Div.ensures c.eval-within-y-in-Div.ensures
+    of_two (quotient) c.divided.ensures c.eval_within-x-in-Div.ensures c.eval_within-y-in-Div.ensures
     (by_row c.args.cells.now c.args.first c.args.second c.args.me _ _ _ _ c.in-Div.ensures c.if-levels-eq0.false)
 
 pub returns-in-Rem : goal.returns-in-Rem
 returns-in-Rem t c =
-    of_two (remainder) c.left-over.ensures c.eval-within-x-in-Rem.ensures c.eval-within-y-in-Rem.ensures
+    of_two (remainder) c.left_over.ensures c.eval_within-x-in-Rem.ensures c.eval_within-y-in-Rem.ensures
     (by_row c.args.cells.now c.args.first c.args.second c.args.me _ _ _ _ c.in-Rem.ensures c.if-levels-eq0.false)
 
 pub returns-in-Lt : goal.returns-in-Lt
 returns-in-Lt t c =
-    of_two (λ u v. cond (ltb u v) 1 0) c.is-below.ensures c.eval-within-x-in-Lt.ensures c.eval-within-y-in-Lt.ensures
+    of_two (λ u v. cond (ltb u v) 1 0) c.is_below.ensures c.eval_within-x-in-Lt.ensures c.eval_within-y-in-Lt.ensures
     (by_row c.args.cells.now c.args.first c.args.second c.args.me _ _ _ _ c.in-Lt.ensures c.if-levels-eq0.false)
 
 pub returns-in-Eq : goal.returns-in-Eq
 returns-in-Eq t c =
-    of_two (λ u v. cond (eqb u v) 1 0) c.is-equal.ensures c.eval-within-x-in-Eq.ensures c.eval-within-y-in-Eq.ensures
+    of_two (λ u v. cond (eqb u v) 1 0) c.is_equal.ensures c.eval_within-x-in-Eq.ensures c.eval_within-y-in-Eq.ensures
     (by_row c.args.cells.now c.args.first c.args.second c.args.me _ _ _ _ c.in-Eq.ensures c.if-levels-eq0.false)
 
 pub returns-then-x-eq0 : goal.returns-then-x-eq0
-returns-then-x-eq0 t c = no_factor _ c.eval-within-x-in-Mul.ensures c.if-x-eq0.true (by_row c.args.cells.now c.args.first c.args.second c.args.me _ _ _ _ c.in-Mul.ensures c.if-levels-eq0.false)
+returns-then-x-eq0 t c = no_factor _ c.eval_within-x-in-Mul.ensures c.if-x-eq0.true (by_row c.args.cells.now c.args.first c.args.second c.args.me _ _ _ _ c.in-Mul.ensures c.if-levels-eq0.false)
 
 pub returns-else-x-eq0 : goal.returns-else-x-eq0
 returns-else-x-eq0 t c =
-    of_two (λ u v. capped (u * v)) c.product.ensures c.eval-within-x-in-Mul.ensures c.eval-within-y-in-Mul.ensures
+    of_two (λ u v. capped (u * v)) c.product.ensures c.eval_within-x-in-Mul.ensures c.eval_within-y-in-Mul.ensures
     (by_row c.args.cells.now c.args.first c.args.second c.args.me _ _ _ _ c.in-Mul.ensures c.if-levels-eq0.false)
 
 pub returns-then-x-eq0-2 : goal.returns-then-x-eq0-2
-returns-then-x-eq0-2 t c = if_zero _ _ c.eval-within.ensures c.eval-within-x-in-If.ensures c.if-x-eq0-2.true (by_row c.args.cells.now c.args.first c.args.second c.args.me _ _ _ _ c.in-If.ensures c.if-levels-eq0.false)
+returns-then-x-eq0-2 t c = if_zero _ _ c.eval_within.ensures c.eval_within-x-in-If.ensures c.if-x-eq0-2.true (by_row c.args.cells.now c.args.first c.args.second c.args.me _ _ _ _ c.in-If.ensures c.if-levels-eq0.false)
 
 pub returns-else-x-eq0-2 : goal.returns-else-x-eq0-2
-returns-else-x-eq0-2 t c = if_other _ _ c.eval-within-else-x-eq0-2.ensures c.eval-within-x-in-If.ensures c.if-x-eq0-2.false (by_row c.args.cells.now c.args.first c.args.second c.args.me _ _ _ _ c.in-If.ensures c.if-levels-eq0.false)
+returns-else-x-eq0-2 t c = if_other _ _ c.eval_within-else-x-eq0-2.ensures c.eval_within-x-in-If.ensures c.if-x-eq0-2.false (by_row c.args.cells.now c.args.first c.args.second c.args.me _ _ _ _ c.in-If.ensures c.if-levels-eq0.false)

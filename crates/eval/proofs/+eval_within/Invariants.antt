@@ -1,4 +1,4 @@
 use Rattle.eval.proofs.+eval_within.Given as goal
 
-abbrev pub decreases-eval-within : goal.decreases-eval-within
-decreases-eval-within l = l.levels
+abbrev pub decreases-eval_within : goal.decreases-eval_within
+decreases-eval_within l = l.levels

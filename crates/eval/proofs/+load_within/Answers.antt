@@ -10,30 +10,30 @@ returns-then-bytes-eq0 t c = record { outcome = nothing c.args.bytes.now (omega 
 pub returns-then-bytes-lt3 : goal.returns-then-bytes-lt3
 returns-then-bytes-lt3 t c = record { outcome = short_number c.args.bytes.now (omega arith) (omega arith); before = λ k h. refl }
 
-pub returns-then-kind-gt-LAST-KIND : goal.returns-then-kind-gt-LAST-KIND
-returns-then-kind-gt-LAST-KIND t c = record { outcome = unknown_kind c.args.bytes.now (omega arith); before = λ k h. refl }
+pub returns-then-kind-gt-LAST_KIND : goal.returns-then-kind-gt-LAST_KIND
+returns-then-kind-gt-LAST_KIND t c = record { outcome = unknown_kind c.args.bytes.now (omega arith); before = λ k h. refl }
 
 pub returns-then-kind-eq0 : goal.returns-then-kind-eq0
 returns-then-kind-eq0 t c =
     at_levels c.args.levels c.args.bytes.now c.args.at _ _ _ c.if-levels-eq0.false
-    (number c.args.bytes.now _ c.args.at _ _ _ c.if-kind-eq0.true (omega arith) (c.type-inv.bytes 1).fits (c.type-inv.bytes 2).fits c.put-row.ensures)
+    (number c.args.bytes.now _ c.args.at _ _ _ c.if-kind-eq0.true (omega arith) (c.type_inv.bytes 1).fits (c.type_inv.bytes 2).fits c.put_row.ensures)
 
 pub loop-j-init : goal.loop-j-init
 loop-j-init t c = ([], no_parts c.args.bytes.now c.args.rules.now _ c.args.at _ refl (omega arith))
 
-pub slice-bounds-load-within-count : goal.slice-bounds-load-within-count
-slice-bounds-load-within-count t c = omega (arith, c.loop-j.invariant.1.within)
+pub slice_bounds-load_within-count : goal.slice_bounds-load_within-count
+slice_bounds-load_within-count t c = omega (arith, c.loop-j.invariant.1.within)
 
-pub slice-bounds-load-within-start : goal.slice-bounds-load-within-start
-slice-bounds-load-within-start t c = omega (arith, c.loop-j.invariant.1.within)
+pub slice_bounds-load_within-start : goal.slice_bounds-load_within-start
+slice_bounds-load_within-start t c = omega (arith, c.loop-j.invariant.1.within)
 
-pub returns-in-default : goal.returns-in-default
-returns-in-default t c =
+pub returns-in_default : goal.returns-in_default
+returns-in_default t c =
     let bs = c.args.bytes.now in
-    let arity = c.arity-of-j-end.ensures.known (omega arith) (omega arith) in
+    let arity = c.arity_of-j-end.ensures.known (omega arith) (omega arith) in
     at_levels c.args.levels bs c.args.at _ _ _ c.if-levels-eq0.false
     (refuse bs (get_or bs 0 0 - 1) (omega arith) (omega arith) (omega arith) _ _ _ _ _ _ _ _ _ c.loop-j.invariant.1 (omega arith) _ _ _
-    c.in-default.not-Read (take_rest bs c.loop-j.used) c.load-within-part.ensures)
+    c.in_default.not-Read (take_rest bs c.loop-j.used) c.load_within-part.ensures)
 
 pub loop-j-preserved : goal.loop-j-preserved
 loop-j-preserved t c =
@@ -46,6 +46,6 @@ loop-j-preserved t c =
 pub returns : goal.returns
 returns t c =
     let bs = c.args.bytes.now in
-    let arity = c.arity-of-j-end.ensures.known (omega arith) (omega arith) in
+    let arity = c.arity_of-j-end.ensures.known (omega arith) (omega arith) in
     at_levels c.args.levels bs c.args.at _ _ _ c.if-levels-eq0.false
-    (all_parts bs (get_or bs 0 0 - 1) (omega arith) (omega arith) (omega arith) _ _ _ _ _ _ _ _ _ c.loop-j.invariant.1 _ _ (omega arith) c.put-row-2.ensures)
+    (all_parts bs (get_or bs 0 0 - 1) (omega arith) (omega arith) (omega arith) _ _ _ _ _ _ _ _ _ c.loop-j.invariant.1 _ _ (omega arith) c.put_row-2.ensures)

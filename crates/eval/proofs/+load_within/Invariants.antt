@@ -3,8 +3,8 @@ use Rattle.rules.specs.Rules.{Expr}
 use Rattle.eval.proofs.Loading.{Parts}
 use Rattle.eval.proofs.+load_within.Given as goal
 
-abbrev pub decreases-load-within : goal.decreases-load-within
-decreases-load-within l = l.levels
+abbrev pub decreases-load_within : goal.decreases-load_within
+decreases-load_within l = l.levels
 
 -- the parts that were loaded
 abbrev pub invariant-loop-j : goal.invariant-loop-j

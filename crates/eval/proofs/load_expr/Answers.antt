@@ -3,4 +3,4 @@ use Rattle.eval.proofs.load_expr.Goals as goal
 
 pub returns : goal.returns
 unfolding expr_at
-returns c = c.load-within.ensures
+returns c = c.load_within.ensures

@@ -24,35 +24,35 @@ loop-i-preserved c = (
       ∙ c.loop-i.invariant.2,
 )
 
-pub returns-in-default : goal.returns-in-default
-returns-in-default c =
+pub returns-in_default : goal.returns-in_default
+returns-in_default c =
     let t = said c.args.text.now c.args.out.now (record { answer = c.fault.result; memory = c.advance.new.out })
-    ((λ j. record { answer = c.fault.ensures j; memory = c.in-default.ensures.1 j })
-    ∙ sym (went_wrong (machine_of c.args.text.now c.loop-i.i c.loop-i.m c.loop-i.out) c.args.text.now c.loop-i.i c.loop-i-test.true c.in-default.ensures.0)
+    ((λ j. record { answer = c.fault.ensures j; memory = c.in_default.ensures.1 j })
+    ∙ sym (went_wrong (machine_of c.args.text.now c.loop-i.i c.loop-i.m c.loop-i.out) c.args.text.now c.loop-i.i c.loop-i-test.true c.in_default.ensures.0)
     ∙ c.loop-i.invariant.2) in
     record { value = t.0; means = t.1 }
 
-pub returns-in-default-settle : goal.returns-in-default-settle
-returns-in-default-settle c =
-    let t = said c.args.text.now c.args.out.now (record { answer = c.fault-in-default-settle.result; memory = c.settle.new.out })
-    ((λ j. record { answer = c.fault-in-default-settle.ensures j; memory = c.in-default-settle.ensures.value.1 j })
-    ∙ sym (ended_short (machine_of c.args.text.now c.loop-i.i c.loop-i.m c.loop-i.out) c.args.text.now c.loop-i.i c.loop-i-test.false c.in-default-settle.ensures.value.0)
+pub returns-in_default-settle : goal.returns-in_default-settle
+returns-in_default-settle c =
+    let t = said c.args.text.now c.args.out.now (record { answer = c.fault-in_default-settle.result; memory = c.settle.new.out })
+    ((λ j. record { answer = c.fault-in_default-settle.ensures j; memory = c.in_default-settle.ensures.value.1 j })
+    ∙ sym (ended_short (machine_of c.args.text.now c.loop-i.i c.loop-i.m c.loop-i.out) c.args.text.now c.loop-i.i c.loop-i-test.false c.in_default-settle.ensures.value.0)
     ∙ c.loop-i.invariant.2) in
     record { value = t.0; means = t.1 }
 
-pub returns-then-is-done : goal.returns-then-is-done
-returns-then-is-done c =
+pub returns-then-is_done : goal.returns-then-is_done
+returns-then-is_done c =
     let t = said c.args.text.now c.args.out.now (record { answer = Ok c.in-Some-settle.p.len; memory = c.settle.new.out })
     (sym (ended_whole (machine_of c.args.text.now c.loop-i.i c.loop-i.m c.loop-i.out) c.args.text.now c.loop-i.i _ c.loop-i-test.false c.in-Some-settle.ensures.value
-    (sym c.if-is-done.ensures))
+    (sym c.if-is_done.ensures))
     ∙ c.loop-i.invariant.2) in
     record { value = t.0; means = t.1 }
 
-pub returns-else-is-done : goal.returns-else-is-done
-returns-else-is-done c =
-    let t = said c.args.text.now c.args.out.now (record { answer = c.fault-else-is-done.result; memory = c.settle.new.out })
-    ((λ j. record { answer = c.fault-else-is-done.ensures j; memory = c.settle.new.out })
+pub returns-else-is_done : goal.returns-else-is_done
+returns-else-is_done c =
+    let t = said c.args.text.now c.args.out.now (record { answer = c.fault-else-is_done.result; memory = c.settle.new.out })
+    ((λ j. record { answer = c.fault-else-is_done.ensures j; memory = c.settle.new.out })
     ∙ sym (ended_early (machine_of c.args.text.now c.loop-i.i c.loop-i.m c.loop-i.out) c.args.text.now c.loop-i.i _ c.loop-i-test.false c.in-Some-settle.ensures.value
-    (sym c.if-is-done.ensures))
+    (sym c.if-is_done.ensures))
     ∙ c.loop-i.invariant.2) in
     record { value = t.0; means = t.1 }

@@ -2,4 +2,4 @@ use Rattle.printing.proofs.Putting.{join}
 use Rattle.printing.proofs.put_number.Goals as goal
 
 pub returns : goal.returns
-returns c = join c.put-word-next.ensures c.put-decimal.ensures
+returns c = join c.put_word-next.ensures c.put_decimal.ensures

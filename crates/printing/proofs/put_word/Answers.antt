@@ -8,8 +8,8 @@ pub loop-b-preserved : goal.loop-b-preserved
 loop-b-preserved c =
     λ j new h.
     c.loop-b.invariant j new
-    (letter c.loop-b.i c.loop-b.b-index c.saturating-add-i.result j c.args.word.now c.loop-b.out c.put-byte.new.out new
-    c.loop-b-test.true c.saturating-add-i.ensures c.put-byte.ensures h)
+    (letter c.loop-b.i c.loop-b.b-index c.saturating_add-i.result j c.args.word.now c.loop-b.out c.put_byte.new.out new
+    c.loop-b-test.true c.saturating_add-i.ensures c.put_byte.ensures h)
 
 pub returns : goal.returns
 returns c =

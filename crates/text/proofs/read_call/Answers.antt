@@ -7,5 +7,5 @@ use Rattle.text.proofs.read_call.Goals as goal
 pub returns : goal.returns
 unfolding call_of
 returns c =
-    let same : c.better-of.result ≡ call_of c.args.line.now = search rules in
+    let same : c.better_of.result ≡ call_of c.args.line.now = search rules in
     record { value = same; means = subst (λ r. Reads c.args.line.now r) (sym same) (reads c.args.line.now) }

@@ -2,8 +2,8 @@ use Rattle.std.proofs.Common.{Ok, Err, arith}
 use Rattle.text.proofs.Numbers.{digits_said, number_whole, number_cut, number_none, number_large}
 use Rattle.text.proofs.read_number.Goals as goal
 
-pub returns-in-default : goal.returns-in-default
-returns-in-default c = number_large c.args.word.now c.in-default.field-0 (digits_said c.args.word.now (Err c.in-default.field-0) c.in-default.ensures)
+pub returns-in_default : goal.returns-in_default
+returns-in_default c = number_large c.args.word.now c.in_default.field-0 (digits_said c.args.word.now (Err c.in_default.field-0) c.in_default.ensures)
 
 pub returns-then-end-eq0 : goal.returns-then-end-eq0
 returns-then-end-eq0 c =

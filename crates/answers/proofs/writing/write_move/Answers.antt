@@ -7,9 +7,9 @@ use Rattle.answers.specs.Writing.{moves_bytes, move_bytes}
 use Rattle.answers.proofs.WritingLemmas.{three_written}
 use Rattle.answers.proofs.writing.write_move.Goals as goal
 
-pub returns-then-saturating-sub-lt12 : goal.returns-then-saturating-sub-lt12
+pub returns-then-saturating_sub-lt12 : goal.returns-then-saturating_sub-lt12
 unfolding moves_bytes moves_fields fields_bytes number_bytes
-returns-then-saturating-sub-lt12 c = record {
+returns-then-saturating_sub-lt12 c = record {
   size = no_room c.args.at (move_bytes c.args.played) c.args.answer.now (omega arith);
   bytes = sym (written_none c.args.at (move_bytes c.args.played) c.args.answer.now (omega arith));
 }
@@ -19,7 +19,7 @@ unfolding moves_bytes moves_fields fields_bytes number_bytes
 returns c = record {
   size = room_for c.args.at 12 (move_bytes c.args.played) c.args.answer.now refl (omega arith);
   bytes =
-      three_written c.args.answer.now c.put-field.new.bytes c.put-field-2.new.bytes c.put-field-3.new.bytes c.args.at
-      c.args.played.rule c.args.played.first c.args.played.second (omega arith) c.put-field.ensures c.put-field-2.ensures
-      c.put-field-3.ensures;
+      three_written c.args.answer.now c.put_field.new.bytes c.put_field-2.new.bytes c.put_field-3.new.bytes c.args.at
+      c.args.played.rule c.args.played.first c.args.played.second (omega arith) c.put_field.ensures c.put_field-2.ensures
+      c.put_field-3.ensures;
 }

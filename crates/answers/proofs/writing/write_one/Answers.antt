@@ -16,5 +16,5 @@ pub returns : goal.returns
 unfolding fields_bytes number_bytes
 returns c = record {
   size = room_for 0 5 (c.args.kind ∷ fields_bytes (c.args.n ∷ [])) c.args.answer.now refl c.if-answer-lt5.false;
-  bytes = one_written c.args.answer.now c.put-field.new.bytes c.args.kind c.args.n c.if-answer-lt5.false c.put-field.ensures;
+  bytes = one_written c.args.answer.now c.put_field.new.bytes c.args.kind c.args.n c.if-answer-lt5.false c.put_field.ensures;
 }

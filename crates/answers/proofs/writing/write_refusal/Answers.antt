@@ -19,6 +19,6 @@ unfolding answer_bytes answer_kind answer_fields fields_bytes number_bytes
 returns c = record {
   size = room_for 0 9 (answer_bytes (refused c.args.refusal)) c.args.answer.now refl c.if-answer-lt9.false;
   bytes =
-      two_written c.args.answer.now c.put-field.new.bytes c.put-field-2.new.bytes 0 c.args.refusal.number c.args.refusal.place
-      c.if-answer-lt9.false c.put-field.ensures c.put-field-2.ensures;
+      two_written c.args.answer.now c.put_field.new.bytes c.put_field-2.new.bytes 0 c.args.refusal.number c.args.refusal.place
+      c.if-answer-lt9.false c.put_field.ensures c.put_field-2.ensures;
 }

@@ -5,6 +5,6 @@ use Rattle.commands.proofs.lines.keep_call.Goals as goal
 pub returns : goal.returns
 returns c =
     let kept =
-    call_kept c.args.call _ c.write-call.new.out c.write-call.result c.unwrap-or-count.result (omega arith) c.write-call.ensures.size
-    c.write-call.ensures.bytes c.unwrap-or-count.ensures in
+    call_kept c.args.call _ c.write_call.new.out c.write_call.result c.unwrap_or-count.result (omega arith) c.write_call.ensures.size
+    c.write_call.ensures.bytes c.unwrap_or-count.ensures in
     record { means = kept; few = omega (arith, kept.0, call_few c.args.call) }

@@ -8,10 +8,10 @@ returns-in-Ok c = record {
   few = omega arith;
 }
 
-pub returns-in-Err-read-call : goal.returns-in-Err-read-call
-returns-in-Err-read-call c = record {
+pub returns-in-Err-read_call : goal.returns-in-Err-read_call
+returns-in-Err-read_call c = record {
   means =
-      by_neither c.args.letters.now c.in-Err.i c.in-Err-read-call.j c.max.result c.max.ensures c.in-Err.ensures.means
-      c.in-Err-read-call.ensures.means;
+      by_neither c.args.letters.now c.in-Err.i c.in-Err-read_call.j c.max.result c.max.ensures c.in-Err.ensures.means
+      c.in-Err-read_call.ensures.means;
   few = tt;
 }

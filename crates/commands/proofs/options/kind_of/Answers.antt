@@ -2,8 +2,8 @@ use Rattle.std.proofs.Common.{rules}
 use Rattle.std.proofs.lemmas.Slice.Eq.{bytes_eq-Decides}
 use Rattle.commands.proofs.options.kind_of.Goals as goal
 
-pub returns-then-begins-as-option : goal.returns-then-begins-as-option
-returns-then-begins-as-option c = search (rules, bytes_eq-Decides)
+pub returns-then-begins_as_option : goal.returns-then-begins_as_option
+returns-then-begins_as_option c = search (rules, bytes_eq-Decides)
 
 pub returns : goal.returns
 returns c = search (rules, bytes_eq-Decides)

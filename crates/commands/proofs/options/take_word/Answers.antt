@@ -2,13 +2,13 @@ use Rattle.std.proofs.Common.{rules}
 use Rattle.commands.specs.Options.{with_word}
 use Rattle.commands.proofs.options.take_word.Goals as goal
 
-pub returns-in-default : goal.returns-in-default
+pub returns-in_default : goal.returns-in_default
 unfolding with_word
-returns-in-default c = search rules
+returns-in_default c = search rules
 
-pub returns-in-default-read-number : goal.returns-in-default-read-number
+pub returns-in_default-read_number : goal.returns-in_default-read_number
 unfolding with_word
-returns-in-default-read-number c = search rules
+returns-in_default-read_number c = search rules
 
 pub returns : goal.returns
 unfolding with_word

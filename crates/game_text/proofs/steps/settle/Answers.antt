@@ -3,8 +3,8 @@ use Rattle.game_text.specs.Room.{Sane}
 use Rattle.game_text.proofs.Settling.{look_fine, digits_settled, letters_settled}
 use Rattle.game_text.proofs.steps.settle.Goals as goal
 
-pub take-word-requires : goal.take-word-requires
-take-word-requires c =
+pub take_word-requires : goal.take_word-requires
+take_word-requires c =
     let d = subst (λ x. Sane c.args.i c.args.p x) c.in-Letters.is c.requires.1 in (
       look_fine _ c.args.p _ c.in-Some.w c.in-Some.ensures,
       (omega (arith, d.0.bytes), (d.0.cells, omega (arith, d.0.few))),
@@ -12,11 +12,11 @@ take-word-requires c =
 
 pub returns-in-Digits : goal.returns-in-Digits
 returns-in-Digits c =
-    let t = digits_settled c.args.text.now c.args.i c.args.token c.args.p c.in-Digits.n c.args.out.now _ c.in-Digits.is c.requires.1 c.take-number.ensures in
+    let t = digits_settled c.args.text.now c.args.i c.args.token c.args.p c.in-Digits.n c.args.out.now _ c.in-Digits.is c.requires.1 c.take_number.ensures in
     record { value = t.0; room = t.1 }
 
 pub returns-in-Some : goal.returns-in-Some
 returns-in-Some c =
     let t = letters_settled c.args.text.now c.args.i c.args.token c.args.p c.in-Letters.from c.args.out.now c.in-Some.w _ c.in-Letters.is c.requires.1
-    c.in-Some.ensures c.take-word.ensures in
+    c.in-Some.ensures c.take_word.ensures in
     record { value = t.0; room = t.1 }

@@ -4,7 +4,7 @@ use Rattle.play.proofs.cursor.next_first.Goals as goal
 
 pub loop-first-preserved : goal.loop-first-preserved
 loop-first-preserved c =
-    first_skipped c.args.rules.now c.args.cells.now c.args.rule c.requires.rule c.loop-first.first c.loop-first-test.true c.in-default.ensures
+    first_skipped c.args.rules.now c.args.cells.now c.args.rule c.requires.rule c.loop-first.first c.loop-first-test.true c.in_default.ensures
     ∙ c.loop-first.invariant
 
 pub returns-in-Some : goal.returns-in-Some

@@ -6,7 +6,7 @@ use Rattle.play.proofs.cursor.next_rule.Goals as goal
 
 pub loop-rule-preserved : goal.loop-rule-preserved
 loop-rule-preserved c =
-    rule_skipped c.args.rules.now c.args.cells.now c.loop-rule.rule c.in-Some.ensures c.in-default-found.ensures
+    rule_skipped c.args.rules.now c.args.cells.now c.loop-rule.rule c.in-Some.ensures c.in_default-found.ensures
     ∙ c.loop-rule.invariant
 
 pub returns-in-Some-found : goal.returns-in-Some-found
@@ -14,4 +14,4 @@ returns-in-Some-found c =
     rule_found c.args.rules.now c.args.cells.now c.loop-rule.rule c.in-Some.ensures c.args.from c.loop-rule.invariant c.in-Some-found.ensures
 
 pub returns : goal.returns
-returns c = sym c.loop-rule.invariant ∙ rule_none (game_at c.args.rules.now) c.args.cells.now c.loop-rule.rule (omega (arith, c.read-game-count.ensures.game.rules_are))
+returns c = sym c.loop-rule.invariant ∙ rule_none (game_at c.args.rules.now) c.args.cells.now c.loop-rule.rule (omega (arith, c.read_game-count.ensures.game.rules_are))

@@ -9,11 +9,11 @@ use Rattle.play.proofs.listing.list_firsts.Goals as goal
 pub loop-first-init : goal.loop-first-init
 loop-first-init c = begun _ c.args.before c.args.answer.now c.requires.room
 
-pub returns-in-default : goal.returns-in-default
-returns-in-default c =
+pub returns-in_default : goal.returns-in_default
+returns-in_default c =
     stopped c.loop-first.invariant (firsts_from (game_at c.args.rules.now) c.args.cells.now c.args.rule (c.loop-first.first + 1))
     (first_more (game_at c.args.rules.now) c.args.cells.now c.args.rule c.loop-first.first
-    (omega (arith, c.loop-first-test.true, first_bound_is c.requires.rule))) c.in-default.ensures
+    (omega (arith, c.loop-first-test.true, first_bound_is c.requires.rule))) c.in_default.ensures
 
 pub loop-first-preserved : goal.loop-first-preserved
 loop-first-preserved c =

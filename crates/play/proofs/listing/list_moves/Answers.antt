@@ -10,14 +10,14 @@ returns-then-answer-lt-HEAD c = record {
   bytes = nothing_written c.args.answer.now (legal_moves (game_at c.args.rules.now) c.args.cells.now) (omega arith);
 }
 
-pub returns-in-default : goal.returns-in-default
-returns-in-default c = record {
-  size = refused c.args.answer.now (legal_moves (game_at c.args.rules.now) c.args.cells.now) (omega (arith, c.in-default.ensures.too_many));
-  bytes = some_written c.args.answer.now (legal_moves (game_at c.args.rules.now) c.args.cells.now) c.in-default.ensures;
+pub returns-in_default : goal.returns-in_default
+returns-in_default c = record {
+  size = refused c.args.answer.now (legal_moves (game_at c.args.rules.now) c.args.cells.now) (omega (arith, c.in_default.ensures.too_many));
+  bytes = some_written c.args.answer.now (legal_moves (game_at c.args.rules.now) c.args.cells.now) c.in_default.ensures;
 }
 
 pub returns : goal.returns
 returns c = record {
   size = all_fits c.args.answer.now (legal_moves (game_at c.args.rules.now) c.args.cells.now) c.in-Some.ensures;
-  bytes = all_written c.args.answer.now (legal_moves (game_at c.args.rules.now) c.args.cells.now) c.in-Some.ensures c.put-field.ensures;
+  bytes = all_written c.args.answer.now (legal_moves (game_at c.args.rules.now) c.args.cells.now) c.in-Some.ensures c.put_field.ensures;
 }

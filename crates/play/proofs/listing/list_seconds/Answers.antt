@@ -11,14 +11,14 @@ use Rattle.play.proofs.listing.list_seconds.Goals.{then-eval-ne0+in-Some, else-e
 pub loop-second-init : goal.loop-second-init
 loop-second-init c = begun _ c.args.before c.args.answer.now c.requires.room
 
-pub returns-in-default : goal.returns-in-default
-returns-in-default c =
+pub returns-in_default : goal.returns-in_default
+returns-in_default c =
     stopped c.loop-second.invariant
     (seconds_from (game_at c.args.rules.now) c.args.cells.now c.args.rule c.args.first (c.loop-second.second + 1))
     (second_next c.args.rules.now c.args.cells.now c.args.rule c.args.first c.loop-second.second
     c.requires.rule c.requires.below c.requires.whose c.loop-second-test.true c.eval.ensures c.if-eval-ne0.true)
     (one_refused c.loop-second.answer c.loop-second.count (move c.args.rule c.args.first c.loop-second.second)
-    c.write-move.ensures.bytes (omega (arith, c.loop-second.invariant.so_far.fits, c.loop-second.auto.answer)) c.in-default.ensures.size)
+    c.write_move.ensures.bytes (omega (arith, c.loop-second.invariant.so_far.fits, c.loop-second.auto.answer)) c.in_default.ensures.size)
 
 pub loop-second-preserved : goal.loop-second-preserved
 loop-second-preserved c =
@@ -29,7 +29,7 @@ loop-second-preserved c =
           (second_next c.args.rules.now c.args.cells.now c.args.rule c.args.first c.loop-second.second
           c.requires.rule c.requires.below c.requires.whose c.loop-second-test.true c.eval.ensures w.if-eval-ne0.true)
           (one_listed c.loop-second.answer c.loop-second.count (move c.args.rule c.args.first c.loop-second.second)
-          w.write-move.ensures.bytes w.in-Some.ensures.size))
+          w.write_move.ensures.bytes w.in-Some.ensures.size))
       | else-eval-ne0 w ↦ like w.answer-is w.count-is (skipped c.loop-second.invariant
           (second_skipped c.args.rules.now c.args.cells.now c.args.rule c.args.first c.loop-second.second
           c.requires.rule c.requires.below c.requires.whose c.loop-second-test.true c.eval.ensures w.if-eval-ne0.false))

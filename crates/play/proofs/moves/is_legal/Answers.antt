@@ -1,8 +1,8 @@
 use Rattle.play.proofs.Words.{no_such_rule, first_past, second_past, by_guard}
 use Rattle.play.proofs.moves.is_legal.Goals as goal
 
-pub returns-in-default : goal.returns-in-default
-returns-in-default c = no_such_rule c.args.rules.now c.args.cells.now c.args.played c.in-default.ensures
+pub returns-in_default : goal.returns-in_default
+returns-in_default c = no_such_rule c.args.rules.now c.args.cells.now c.args.played c.in_default.ensures
 
 pub returns-then-played-row : goal.returns-then-played-row
 returns-then-played-row c = first_past c.args.rules.now c.args.cells.now c.args.played c.in-Some.ensures c.if-played-row.true

@@ -5,18 +5,18 @@ use Rattle.wire.proofs.GamesBack.{game_writes_back}
 use Rattle.printing.proofs.Whole.{game_printed, no_game, exact}
 use Rattle.printing.proofs.games.print_game.Goals as goal
 
-pub returns-then-not-is-game : goal.returns-then-not-is-game
-returns-then-not-is-game c =
+pub returns-then-not-is_game : goal.returns-then-not-is_game
+returns-then-not-is_game c =
     let bs : List ℕ = c.args.game.now in
-    let h = no_game (parse_game bs) c.args.out.now c.if-not-is-game.ensures in
-    record { size = h.0; exact = exact bs _ (below_from bs (λ i. (c.type-inv.game i).fits)) h.0; text = h.1 }
+    let h = no_game (parse_game bs) c.args.out.now c.if-not-is_game.ensures in
+    record { size = h.0; exact = exact bs _ (below_from bs (λ i. (c.type_inv.game i).fits)) h.0; text = h.1 }
 
 pub returns : goal.returns
 returns c =
     let bs : List ℕ = c.args.game.now in
-    let all = below_from bs (λ i. (c.type-inv.game i).fits) in
+    let all = below_from bs (λ i. (c.type_inv.game i).fits) in
     let h =
-    game_printed (parse_game bs) c.args.out.now c.put-game.result c.put-game.new.out c.if-not-is-game.ensures (omega arith)
-    (λ g e. let back = game_writes_back bs g all e in c.put-game.ensures g back.0 back.1)
+    game_printed (parse_game bs) c.args.out.now c.put_game.result c.put_game.new.out c.if-not-is_game.ensures (omega arith)
+    (λ g e. let back = game_writes_back bs g all e in c.put_game.ensures g back.0 back.1)
     in
     record { size = h.0; exact = exact bs _ all h.0; text = h.1 }

@@ -10,7 +10,7 @@ pub loop-left-preserved : goal.loop-left-preserved
 loop-left-preserved c =
     λ xs rest e f n.
     left_more cells_made c.args.game.now c.loop-left.spot.next c.loop-left.left c.loop-left.spot.at c.loop-left.out c.args.at
-    c.args.out.now xs rest c.put-number-at-spot.new.out c.put-number-at-spot.result c.loop-left-test.true c.put-number-at-spot.ensures (c.loop-left.invariant xs rest e f n)
+    c.args.out.now xs rest c.put_number_at-spot.new.out c.put_number_at-spot.result c.loop-left-test.true c.put_number_at-spot.ensures (c.loop-left.invariant xs rest e f n)
 
 pub returns : goal.returns
 returns c =

@@ -10,8 +10,8 @@ pub loop-left-preserved : goal.loop-left-preserved
 loop-left-preserved c =
     λ xs rest e f n.
     left_more effects_made c.args.game.now c.loop-left.spot.next c.loop-left.left c.loop-left.spot.at c.loop-left.out c.args.at
-    c.args.out.now xs rest c.put-line-spot.new.out c.put-line-spot.result c.loop-left-test.true (effect_put c.args.game.now c.loop-left.spot.next c.loop-left.spot.at c.loop-left.out c.put-line-spot.result
-    c.put-line-spot.new.out c.put-line-spot.ensures) (c.loop-left.invariant xs rest e f n)
+    c.args.out.now xs rest c.put_line-spot.new.out c.put_line-spot.result c.loop-left-test.true (effect_put c.args.game.now c.loop-left.spot.next c.loop-left.spot.at c.loop-left.out c.put_line-spot.result
+    c.put_line-spot.new.out c.put_line-spot.ensures) (c.loop-left.invariant xs rest e f n)
 
 pub returns : goal.returns
 returns c =

@@ -10,11 +10,11 @@ pub loop-pending-preserved : goal.loop-pending-preserved
 loop-pending-preserved c =
     λ es rest e f n.
     heads_more c.args.game.now c.loop-pending.i c.loop-pending.pending c.loop-pending.place c.loop-pending.out c.args.at
-    c.args.out.now es rest c.put-head-head.new.out c.put-head-head.result c.loop-pending-test.true c.put-head-head.ensures.text
+    c.args.out.now es rest c.put_head-head.new.out c.put_head-head.result c.loop-pending-test.true c.put_head-head.ensures.text
     (c.loop-pending.invariant es rest e f n)
 
-pub returns-else-pending-saturating-sub : goal.returns-else-pending-saturating-sub
-returns-else-pending-saturating-sub c =
+pub returns-else-pending-saturating_sub : goal.returns-else-pending-saturating_sub
+returns-else-pending-saturating_sub c =
     λ es rest e f n.
     heads_end c.args.game.now c.loop-pending.i c.loop-pending.pending c.loop-pending.place c.loop-pending.out c.args.at
     c.args.out.now es rest (λ h. omega arith) (c.loop-pending.invariant es rest e f n)

@@ -6,8 +6,8 @@ pub returns-then-kind-eq0 : goal.returns-then-kind-eq0
 returns-then-kind-eq0 c = record {
   text =
       λ e rest.
-      number_headed c.args.game.now c.args.from c.args.at c.put-number.result c.args.out.now c.put-number.new.out rest e
-      c.two-bytes.result c.if-kind-eq0.true c.two-bytes.ensures c.put-number.ensures;
+      number_headed c.args.game.now c.args.from c.args.at c.put_number.result c.args.out.now c.put_number.new.out rest e
+      c.two_bytes.result c.if-kind-eq0.true c.two_bytes.ensures c.put_number.ensures;
   after = (omega arith, omega arith);
   few = omega arith;
 }
@@ -16,8 +16,8 @@ pub returns : goal.returns
 returns c = record {
   text =
       λ e rest stands fits.
-      kind_headed c.args.game.now c.args.from c.args.at c.put-kind.result c.args.out.now c.put-kind.new.out rest e
-      (get_or c.args.game.now c.args.from 0) c.arity-of.result c.if-kind-eq0.false refl c.arity-of.ensures.known c.put-kind.ensures stands;
+      kind_headed c.args.game.now c.args.from c.args.at c.put_kind.result c.args.out.now c.put_kind.new.out rest e
+      (get_or c.args.game.now c.args.from 0) c.arity_of.result c.if-kind-eq0.false refl c.arity_of.ensures.known c.put_kind.ensures stands;
   after = (omega arith, omega arith);
-  few = c.arity-of.ensures.few;
+  few = c.arity_of.ensures.few;
 }

@@ -4,5 +4,5 @@ use Rattle.printing.proofs.games.put_number_at.Goals as goal
 
 pub returns : goal.returns
 returns c =
-    cell_put c.args.game.now c.args.from c.args.at c.args.out.now c.two-bytes.result c.put-number.result
-    c.saturating-add.result c.put-number.new.out (omega arith) c.two-bytes.ensures c.put-number.ensures c.saturating-add.ensures
+    cell_put c.args.game.now c.args.from c.args.at c.args.out.now c.two_bytes.result c.put_number.result
+    c.saturating_add.result c.put_number.new.out (omega arith) c.two_bytes.ensures c.put_number.ensures c.saturating_add.ensures

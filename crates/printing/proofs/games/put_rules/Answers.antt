@@ -10,7 +10,7 @@ pub loop-left-preserved : goal.loop-left-preserved
 loop-left-preserved c =
     λ xs rest e f n.
     left_more rules_made c.args.game.now c.loop-left.spot.next c.loop-left.left c.loop-left.spot.at c.loop-left.out c.args.at
-    c.args.out.now xs rest c.put-rule-spot.new.out c.put-rule-spot.result c.loop-left-test.true c.put-rule-spot.ensures (c.loop-left.invariant xs rest e f n)
+    c.args.out.now xs rest c.put_rule-spot.new.out c.put_rule-spot.result c.loop-left-test.true c.put_rule-spot.ensures (c.loop-left.invariant xs rest e f n)
 
 pub returns : goal.returns
 returns c =

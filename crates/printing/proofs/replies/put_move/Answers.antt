@@ -3,5 +3,5 @@ use Rattle.printing.proofs.replies.put_move.Goals as goal
 
 pub returns : goal.returns
 returns c =
-    move_put c.args.at c.args.out.now (move_at c.args.answer.now c.args.from) c.field-at.ensures c.field-at-2.ensures
-    c.field-at-3.ensures c.put-decimal-place.ensures c.put-number-place.ensures c.put-number.ensures
+    move_put c.args.at c.args.out.now (move_at c.args.answer.now c.args.from) c.field_at.ensures c.field_at-2.ensures
+    c.field_at-3.ensures c.put_decimal-place.ensures c.put_number-place.ensures c.put_number.ensures

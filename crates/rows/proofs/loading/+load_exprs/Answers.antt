@@ -9,22 +9,22 @@ returns-then-count-eq0 t c = record {
   placed = no_exprs c.args.bytes.now c.args.from c.args.count c.args.table c.args.at c.args.rules.now c.if-count-eq0.true;
 }
 
-pub returns-in-default : goal.returns-in-default
-returns-in-default t c = record {
+pub returns-in_default : goal.returns-in_default
+returns-in_default t c = record {
   inside = tt;
   placed = λ es q there.
       not_refused c.args.bytes.now c.args.from c.args.count c.args.at _ c.args.rules.now _ (omega arith) (omega arith) c.requires.small
-      (take_rest c.args.bytes.now c.args.from) es q there _ c.in-default.not-Read c.load-expr.ensures;
+      (take_rest c.args.bytes.now c.args.from) es q there _ c.in_default.not-Read c.load_expr.ensures;
 }
 
 pub returns : goal.returns
 returns t c =
     let first = c.in-Read.ensures in
-    let same : length c.load-expr.new.rules ≡ length c.args.rules.now = omega arith in
+    let same : length c.load_expr.new.rules ≡ length c.args.rules.now = omega arith in
     record {
-      inside = inside_earlier _ _ _ c.args.at (c.in-Read.root + 4) _ (length-set c.load-expr.new.rules c.args.table c.in-Read.root ∙ same) (omega (arith, first.outcome.1.ends)) c.load-exprs.ensures.inside;
+      inside = inside_earlier _ _ _ c.args.at (c.in-Read.root + 4) _ (length-set c.load_expr.new.rules c.args.table c.in-Read.root ∙ same) (omega (arith, first.outcome.1.ends)) c.load_exprs.ensures.inside;
       placed = λ es q there.
-          exprs_next c.args.bytes.now c.args.from c.args.count c.args.at _ c.args.rules.now c.load-expr.new.rules (omega arith)
+          exprs_next c.args.bytes.now c.args.from c.args.count c.args.at _ c.args.rules.now c.load_expr.new.rules (omega arith)
           (omega arith) c.requires.small (take_rest c.args.bytes.now c.args.from) es q there c.in-Read.used c.in-Read.root first
-          c.args.table c.load-exprs.new.rules c.load-exprs.result c.requires.before c.requires.free c.load-exprs.ensures.placed;
+          c.args.table c.load_exprs.new.rules c.load_exprs.result c.requires.before c.requires.free c.load_exprs.ensures.placed;
     }

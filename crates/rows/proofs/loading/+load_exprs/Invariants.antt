@@ -1,4 +1,4 @@
 use Rattle.rows.proofs.loading.+load_exprs.Given as goal
 
-abbrev pub decreases-load-exprs : goal.decreases-load-exprs
-decreases-load-exprs l = l.count
+abbrev pub decreases-load_exprs : goal.decreases-load_exprs
+decreases-load_exprs l = l.count

@@ -1,4 +1,4 @@
 use Rattle.rows.proofs.loading.+load_rules.Given as goal
 
-abbrev pub decreases-load-rules : goal.decreases-load-rules
-decreases-load-rules l = l.count
+abbrev pub decreases-load_rules : goal.decreases-load_rules
+decreases-load_rules l = l.count

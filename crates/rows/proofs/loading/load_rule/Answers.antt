@@ -8,11 +8,11 @@ returns-then-bytes-from-lt4 c = record {
   placed = λ u q there. no_bytes c.args.bytes.now c.args.from c.args.at _ u q (omega arith) there;
 }
 
-pub returns-in-default : goal.returns-in-default
-returns-in-default c = record {
+pub returns-in_default : goal.returns-in_default
+returns-in_default c = record {
   inside = tt;
   placed = λ u q there.
-      no_guard c.args.bytes.now c.args.from c.args.at c.args.row c.args.rules.now (omega arith) u q there c.load-exprs.new.rules c.in-default.ensures.placed;
+      no_guard c.args.bytes.now c.args.from c.args.at c.args.row c.args.rules.now (omega arith) u q there c.load_exprs.new.rules c.in_default.ensures.placed;
 }
 
 pub returns-then-bytes-guard : goal.returns-then-bytes-guard
@@ -31,22 +31,22 @@ returns-then-rules-table c = record {
       (omega arith) c.in-Some.ensures.placed (omega arith) (omega arith);
 }
 
-pub returns-in-default-load-exprs : goal.returns-in-default-load-exprs
-returns-in-default-load-exprs c = record {
+pub returns-in_default-load_exprs : goal.returns-in_default-load_exprs
+returns-in_default-load_exprs c = record {
   inside = tt;
   placed = λ u q there.
       no_others c.args.bytes.now c.args.from c.args.at c.args.row c.args.rules.now (omega arith) u q there _ c.in-Some.guard
-      (omega arith) c.in-Some.ensures.placed (omega arith) c.load-exprs-2.new.rules c.in-default-load-exprs.ensures.placed;
+      (omega arith) c.in-Some.ensures.placed (omega arith) c.load_exprs-2.new.rules c.in_default-load_exprs.ensures.placed;
 }
 
 pub returns : goal.returns
 returns c =
     let guard = c.in-Some.ensures.inside in
-    let others = c.in-Some-load-exprs.ensures.inside in
+    let others = c.in-Some-load_exprs.ensures.inside in
     record {
       inside = record { read = others.read; later = omega (arith, guard.later, others.later); free = omega (arith, others.free) };
       placed = λ u q there.
           rule_placed c.args.bytes.now c.args.from c.args.at c.args.row c.args.rules.now (omega arith) u q there _ c.in-Some.guard
-          (omega arith) c.in-Some.ensures.placed (omega arith) _ _ c.in-Some-load-exprs.end _ _ c.requires.before c.two-bytes.ensures
-          c.two-bytes-2.ensures c.in-Some-load-exprs.ensures.placed c.put-rule.ensures;
+          (omega arith) c.in-Some.ensures.placed (omega arith) _ _ c.in-Some-load_exprs.end _ _ c.requires.before c.two_bytes.ensures
+          c.two_bytes-2.ensures c.in-Some-load_exprs.ensures.placed c.put_rule.ensures;
     }

@@ -28,19 +28,19 @@ returns-in-May c =
 
 pub returns-in-Ticks : goal.returns-in-Ticks
 returns-in-Ticks c =
-    subst (λ x. Acts c.args.rules.now c.args.state.now c.args.answer.now x c.args.state.now c.write-refusal.new.answer c.write-refusal.result) (sym c.in-Ticks.is)
-    (no_ticks c.args.rules.now c.args.state.now c.args.answer.now c.write-refusal.new.answer c.write-refusal.result c.refusal-of.result c.refusal-of.ensures.number c.in-Ticks.-n
-    c.refusal-of.ensures.place c.write-refusal.ensures.size c.write-refusal.ensures.bytes)
+    subst (λ x. Acts c.args.rules.now c.args.state.now c.args.answer.now x c.args.state.now c.write_refusal.new.answer c.write_refusal.result) (sym c.in-Ticks.is)
+    (no_ticks c.args.rules.now c.args.state.now c.args.answer.now c.write_refusal.new.answer c.write_refusal.result c.refusal_of.result c.refusal_of.ensures.number c.in-Ticks.-n
+    c.refusal_of.ensures.place c.write_refusal.ensures.size c.write_refusal.ensures.bytes)
 
 pub returns-in-Back : goal.returns-in-Back
 returns-in-Back c =
-    subst (λ x. Acts c.args.rules.now c.args.state.now c.args.answer.now x c.args.state.now c.write-refusal-in-Back.new.answer c.write-refusal-in-Back.result) (sym c.in-Back.is)
-    (no_back c.args.rules.now c.args.state.now c.args.answer.now c.write-refusal-in-Back.new.answer c.write-refusal-in-Back.result c.refusal-of-in-Back.result c.refusal-of-in-Back.ensures.number c.in-Back.-t c.in-Back.-n
-    c.refusal-of-in-Back.ensures.place c.write-refusal-in-Back.ensures.size c.write-refusal-in-Back.ensures.bytes)
+    subst (λ x. Acts c.args.rules.now c.args.state.now c.args.answer.now x c.args.state.now c.write_refusal-in-Back.new.answer c.write_refusal-in-Back.result) (sym c.in-Back.is)
+    (no_back c.args.rules.now c.args.state.now c.args.answer.now c.write_refusal-in-Back.new.answer c.write_refusal-in-Back.result c.refusal_of-in-Back.result c.refusal_of-in-Back.ensures.number c.in-Back.-t c.in-Back.-n
+    c.refusal_of-in-Back.ensures.place c.write_refusal-in-Back.ensures.size c.write_refusal-in-Back.ensures.bytes)
 
 pub returns-in-CanForce : goal.returns-in-CanForce
 returns-in-CanForce c =
-    let at : c.refusal-of-in-CanForce.result.place ≡ refusal_place c.args.call 2 = c.refusal-of-in-CanForce.ensures.place in
-    subst (λ x. Acts c.args.rules.now c.args.state.now c.args.answer.now x c.args.state.now c.write-refusal-in-CanForce.new.answer c.write-refusal-in-CanForce.result) (sym c.in-CanForce.is)
-    (no_force c.args.rules.now c.args.state.now c.args.answer.now c.write-refusal-in-CanForce.new.answer c.write-refusal-in-CanForce.result c.refusal-of-in-CanForce.result c.refusal-of-in-CanForce.ensures.number c.in-CanForce.table c.in-CanForce.player c.in-CanForce.gain c.in-CanForce.within
-    (at ∙ ap (λ x. refusal_place x 2) c.in-CanForce.is) c.write-refusal-in-CanForce.ensures.size c.write-refusal-in-CanForce.ensures.bytes)
+    let at : c.refusal_of-in-CanForce.result.place ≡ refusal_place c.args.call 2 = c.refusal_of-in-CanForce.ensures.place in
+    subst (λ x. Acts c.args.rules.now c.args.state.now c.args.answer.now x c.args.state.now c.write_refusal-in-CanForce.new.answer c.write_refusal-in-CanForce.result) (sym c.in-CanForce.is)
+    (no_force c.args.rules.now c.args.state.now c.args.answer.now c.write_refusal-in-CanForce.new.answer c.write_refusal-in-CanForce.result c.refusal_of-in-CanForce.result c.refusal_of-in-CanForce.ensures.number c.in-CanForce.table c.in-CanForce.player c.in-CanForce.gain c.in-CanForce.within
+    (at ∙ ap (λ x. refusal_place x 2) c.in-CanForce.is) c.write_refusal-in-CanForce.ensures.size c.write_refusal-in-CanForce.ensures.bytes)

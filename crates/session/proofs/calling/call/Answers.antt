@@ -4,30 +4,30 @@ use Rattle.session.proofs.Served.{words_fit, left_alone, low_place, acted, misre
 use Rattle.session.proofs.calling.call.Goals as goal
 use Rattle.session.proofs.calling.call.Goals.{in-Ok, in-Err}
 
-pub returns-then-not-is-ready : goal.returns-then-not-is-ready
-returns-then-not-is-ready c =
+pub returns-then-not-is_ready : goal.returns-then-not-is_ready
+returns-then-not-is_ready c =
     let m : Lent = lent c.args.rules.now c.args.state.now c.args.scratch.now c.args.answer.now in
     left_alone m c.args.call.now (words_fit m (λ i. search rules) (λ i. search rules) (λ i. search rules) (λ i. search rules))
-    c.if-not-is-ready.ensures
+    c.if-not-is_ready.ensures
 
-pub overflow-cast-place : goal.overflow-cast-place
-overflow-cast-place c = let low = low_place c.args.call.now c.in-Err.place c.in-Err.ensures in omega (arith, low)
+pub overflow_cast-place : goal.overflow_cast-place
+overflow_cast-place c = let low = low_place c.args.call.now c.in-Err.place c.in-Err.ensures in omega (arith, low)
 
 pub returns : goal.returns
 returns c =
-    let n : Lent = lent c.args.rules.now c.match-read-call.state c.args.scratch.now c.match-read-call.answer in
+    let n : Lent = lent c.args.rules.now c.match-read_call.state c.args.scratch.now c.match-read_call.answer in
     let fits = words_fit n (λ i. search rules) (λ i. search rules) (λ i. search rules) (λ i. search rules) in
     let m : Lent = lent c.args.rules.now c.args.state.now c.args.scratch.now c.args.answer.now in
-    let long : SameLengths m n = record { rules = refl; state = c.match-read-call.auto.state; scratch = refl; answer = c.match-read-call.auto.answer } in
-    elim c.match-read-call.branch [
+    let long : SameLengths m n = record { rules = refl; state = c.match-read_call.auto.state; scratch = refl; answer = c.match-read_call.auto.answer } in
+    elim c.match-read_call.branch [
       | in-Ok w ↦
-          acted c.args.rules.now c.args.state.now c.args.scratch.now c.args.answer.now c.args.call.now c.match-read-call.state c.match-read-call.answer
-          c.unwrap-or.result c.match-read-call.size c.unwrap-or.ensures c.if-not-is-ready.ensures long fits w.in-Ok.asked w.in-Ok.ensures
-          (acts_as c.args.rules.now c.args.state.now c.args.answer.now w.in-Ok.asked w.act-size.new.state c.match-read-call.state
-          w.act-size.new.answer c.match-read-call.answer w.act-size.result c.match-read-call.size w.state-is w.answer-is w.size-is
+          acted c.args.rules.now c.args.state.now c.args.scratch.now c.args.answer.now c.args.call.now c.match-read_call.state c.match-read_call.answer
+          c.unwrap_or.result c.match-read_call.size c.unwrap_or.ensures c.if-not-is_ready.ensures long fits w.in-Ok.asked w.in-Ok.ensures
+          (acts_as c.args.rules.now c.args.state.now c.args.answer.now w.in-Ok.asked w.act-size.new.state c.match-read_call.state
+          w.act-size.new.answer c.match-read_call.answer w.act-size.result c.match-read_call.size w.state-is w.answer-is w.size-is
           w.act-size.ensures)
       | in-Err w ↦
-          misread c.args.rules.now c.args.state.now c.args.scratch.now c.args.answer.now c.args.call.now c.match-read-call.state c.match-read-call.answer
-          c.unwrap-or.result c.match-read-call.size c.unwrap-or.ensures c.if-not-is-ready.ensures long fits w.in-Err.place w.in-Err.ensures w.state-is (w.size-is ∙ w.write-refusal-size.ensures.size)
-          (w.answer-is ∙ w.write-refusal-size.ensures.bytes)
+          misread c.args.rules.now c.args.state.now c.args.scratch.now c.args.answer.now c.args.call.now c.match-read_call.state c.match-read_call.answer
+          c.unwrap_or.result c.match-read_call.size c.unwrap_or.ensures c.if-not-is_ready.ensures long fits w.in-Err.place w.in-Err.ensures w.state-is (w.size-is ∙ w.write_refusal-size.ensures.size)
+          (w.answer-is ∙ w.write_refusal-size.ensures.bytes)
     ]

@@ -15,5 +15,5 @@ returns-else-within-gt-DEEPEST c = record {
   place = flat_place _ _ _ _ c.if-within-gt-DEEPEST.false ∙ ap (λ x. refusal_place x 2) (sym c.in-CanForce.is);
 }
 
-pub returns-in-default : goal.returns-in-default
-returns-in-default c = record { number = refl; place = other_place c.args.call c.in-default.not-CanForce }
+pub returns-in_default : goal.returns-in_default
+returns-in_default c = record { number = refl; place = other_place c.args.call c.in_default.not-CanForce }

@@ -4,65 +4,65 @@ use Rattle.tables.proofs.Answering.{found, found_entry}
 use Rattle.tables.proofs.Writes.{no_such_table, is_at_end, not_their_turn, not_legal, too_many, move_there}
 use Rattle.tables.proofs.acting.play_at.Goals as goal
 
-pub returns-in-default : goal.returns-in-default
-returns-in-default c =
+pub returns-in_default : goal.returns-in_default
+returns-in_default c =
     let e = no_such_table (game_at c.args.rules.now) c.args.state.now c.args.p c.args.table c.args.player c.args.played
-    c.in-default.ensures in
+    c.in_default.ensures in
     record { after = sym (ap (λ o. o.0) e); says = sym (ap (λ o. o.1) e) }
 
-pub not-over-requires : goal.not-over-requires
-not-over-requires c =
+pub not_over-requires : goal.not_over-requires
+not_over-requires c =
     let s = found c.args.p c.args.table _ c.in-Some.at _ c.requires.roomy (omega arith) c.in-Some.ensures in
     record { few = omega arith; low = s.low }
 
-pub returns-in-default-not-over : goal.returns-in-default-not-over
-returns-in-default-not-over c =
+pub returns-in_default-not_over : goal.returns-in_default-not_over
+returns-in_default-not_over c =
     let e = is_at_end (game_at c.args.rules.now) c.args.state.now c.args.p c.args.table c.args.player c.args.played
-    c.in-Some.at c.in-Some.ensures c.in-default-not-over.ensures in
+    c.in-Some.at c.in-Some.ensures c.in_default-not_over.ensures in
     record { after = sym (ap (λ o. o.0) e); says = sym (ap (λ o. o.1) e) }
 
-pub slice-bounds-whose-turn-end : goal.slice-bounds-whose-turn-end
-slice-bounds-whose-turn-end c =
+pub slice_bounds-whose_turn-end : goal.slice_bounds-whose_turn-end
+slice_bounds-whose_turn-end c =
     let s = found c.args.p c.args.table _ c.in-Some.at _ c.requires.roomy (omega arith) c.in-Some.ensures in
     search rules
 
-pub returns-in-default-whose-turn : goal.returns-in-default-whose-turn
-returns-in-default-whose-turn c =
+pub returns-in_default-whose_turn : goal.returns-in_default-whose_turn
+returns-in_default-whose_turn c =
     let e = not_their_turn (game_at c.args.rules.now) c.args.state.now c.args.p c.args.table c.args.player c.args.played
-    c.in-Some.at c.in-Some.ensures c.in-Some-not-over.count c.in-Some-not-over.ensures _ (omega arith)
-    c.in-default-whose-turn.ensures in
+    c.in-Some.at c.in-Some.ensures c.in-Some-not_over.count c.in-Some-not_over.ensures _ (omega arith)
+    c.in_default-whose_turn.ensures in
     record { after = sym (ap (λ o. o.0) e); says = sym (ap (λ o. o.1) e) }
 
-pub slice-bounds-legal-end : goal.slice-bounds-legal-end
-slice-bounds-legal-end c =
+pub slice_bounds-legal-end : goal.slice_bounds-legal-end
+slice_bounds-legal-end c =
     let s = found c.args.p c.args.table _ c.in-Some.at _ c.requires.roomy (omega arith) c.in-Some.ensures in
     search rules
 
-pub returns-in-default-legal : goal.returns-in-default-legal
-returns-in-default-legal c =
+pub returns-in_default-legal : goal.returns-in_default-legal
+returns-in_default-legal c =
     let e = not_legal (game_at c.args.rules.now) c.args.state.now c.args.p c.args.table c.args.player c.args.played
-    c.in-Some.at c.in-Some.ensures c.in-Some-not-over.count c.in-Some-not-over.ensures _ (omega arith)
-    c.in-Some-whose-turn.-me c.in-Some-whose-turn.ensures c.in-default-legal.ensures in
+    c.in-Some.at c.in-Some.ensures c.in-Some-not_over.count c.in-Some-not_over.ensures _ (omega arith)
+    c.in-Some-whose_turn.-me c.in-Some-whose_turn.ensures c.in_default-legal.ensures in
     record { after = sym (ap (λ o. o.0) e); says = sym (ap (λ o. o.1) e) }
 
-pub returns-in-default-free-entry : goal.returns-in-default-free-entry
-returns-in-default-free-entry c =
+pub returns-in_default-free_entry : goal.returns-in_default-free_entry
+returns-in_default-free_entry c =
     let e = too_many (game_at c.args.rules.now) c.args.state.now c.args.p c.args.table c.args.player c.args.played
-    c.in-Some.at c.in-Some.ensures c.in-Some-not-over.count c.in-Some-not-over.ensures _ (omega arith)
-    c.in-Some-whose-turn.-me c.in-Some-whose-turn.ensures c.in-Some-legal.v c.in-Some-legal.ensures
-    c.in-default-free-entry.ensures in
+    c.in-Some.at c.in-Some.ensures c.in-Some-not_over.count c.in-Some-not_over.ensures _ (omega arith)
+    c.in-Some-whose_turn.-me c.in-Some-whose_turn.ensures c.in-Some-legal.v c.in-Some-legal.ensures
+    c.in_default-free_entry.ensures in
     record { after = sym (ap (λ o. o.0) e); says = sym (ap (λ o. o.1) e) }
 
-pub add-move-requires : goal.add-move-requires
-add-move-requires c =
+pub add_move-requires : goal.add_move-requires
+add_move-requires c =
     let s = found c.args.p c.args.table _ c.in-Some.at _ c.requires.roomy (omega arith) c.in-Some.ensures in
-    let f = found_entry c.args.p c.in-Some-free-entry.entry c.in-Some-free-entry.ensures in
+    let f = found_entry c.args.p c.in-Some-free_entry.entry c.in-Some-free_entry.ensures in
     record { roomy = c.requires.roomy; inside = s.inside; low = s.low; placed = f.1; free = f.0 }
 
 pub returns : goal.returns
 returns c =
     let e = move_there (game_at c.args.rules.now) c.args.state.now c.args.p c.args.table c.args.player c.args.played
-    c.in-Some.at c.in-Some.ensures c.in-Some-not-over.count c.in-Some-not-over.ensures _ (omega arith)
-    c.in-Some-whose-turn.-me c.in-Some-whose-turn.ensures c.in-Some-legal.v c.in-Some-legal.ensures
-    c.in-Some-free-entry.entry c.in-Some-free-entry.ensures in
-    record { after = c.add-move.ensures ∙ sym (ap (λ o. o.0) e); says = ap (λ x. Ok x) c.saturating-add.ensures ∙ sym (ap (λ o. o.1) e) }
+    c.in-Some.at c.in-Some.ensures c.in-Some-not_over.count c.in-Some-not_over.ensures _ (omega arith)
+    c.in-Some-whose_turn.-me c.in-Some-whose_turn.ensures c.in-Some-legal.v c.in-Some-legal.ensures
+    c.in-Some-free_entry.entry c.in-Some-free_entry.ensures in
+    record { after = c.add_move.ensures ∙ sym (ap (λ o. o.0) e); says = ap (λ x. Ok x) c.saturating_add.ensures ∙ sym (ap (λ o. o.1) e) }

@@ -3,9 +3,9 @@ use borrow.Rule.Slice.PartMut.{put_mid}
 use Rattle.tables.proofs.Opened.{not_opened, too_short, opens, words_fit, header_written}
 use Rattle.tables.proofs.plan.open_tables.Goals as goal
 
-pub returns-in-default : goal.returns-in-default
-returns-in-default c =
-    let e = not_opened c.args.limits c.args.size c.args.state.now c.in-default.ensures in
+pub returns-in_default : goal.returns-in_default
+returns-in_default c =
+    let e = not_opened c.args.limits c.args.size c.args.state.now c.in_default.ensures in
     record { after = sym (ap (λ o. o.0) e); could = sym (ap (λ o. o.1) e) }
 
 pub returns-then-state-sizes : goal.returns-then-state-sizes
@@ -13,23 +13,23 @@ returns-then-state-sizes c =
     let e = too_short c.args.limits c.args.size c.args.state.now c.in-Some.sizes c.in-Some.ensures c.if-state-sizes.true in
     record { after = sym (ap (λ o. o.0) e); could = sym (ap (λ o. o.1) e) }
 
-pub overflow-cast-header : goal.overflow-cast-header
-overflow-cast-header c =
+pub overflow_cast-header : goal.overflow_cast-header
+overflow_cast-header c =
     let f = words_fit c.args.limits c.args.size c.in-Some.sizes c.in-Some.ensures in
     omega arith
 
-pub overflow-cast-header-2 : goal.overflow-cast-header-2
-overflow-cast-header-2 c =
+pub overflow_cast-header-2 : goal.overflow_cast-header-2
+overflow_cast-header-2 c =
     let f = words_fit c.args.limits c.args.size c.in-Some.sizes c.in-Some.ensures in
     omega arith
 
-pub overflow-cast-header-3 : goal.overflow-cast-header-3
-overflow-cast-header-3 c =
+pub overflow_cast-header-3 : goal.overflow_cast-header-3
+overflow_cast-header-3 c =
     let f = words_fit c.args.limits c.args.size c.in-Some.sizes c.in-Some.ensures in
     omega arith
 
-pub slice-bounds-copy-from-slice-end : goal.slice-bounds-copy-from-slice-end
-slice-bounds-copy-from-slice-end c =
+pub slice_bounds-copy_from_slice-end : goal.slice_bounds-copy_from_slice-end
+slice_bounds-copy_from_slice-end c =
     let f = words_fit c.args.limits c.args.size c.in-Some.sizes c.in-Some.ensures in
     search rules
 
@@ -37,4 +37,4 @@ pub returns : goal.returns
 returns c =
     let e = opens c.args.limits c.args.size c.args.state.now c.in-Some.sizes c.in-Some.ensures c.if-state-sizes.false in
     let h = header_written c.args.limits c.args.size c.args.state.now c.in-Some.sizes c.in-Some.ensures in
-    record { after = ap (λ x. put_mid 0 16 c.args.state.now x) c.copy-from-slice.ensures.after ∙ (h ∙ sym (ap (λ o. o.0) e)); could = sym (ap (λ o. o.1) e) }
+    record { after = ap (λ x. put_mid 0 16 c.args.state.now x) c.copy_from_slice.ensures.after ∙ (h ∙ sym (ap (λ o. o.0) e)); could = sym (ap (λ o. o.1) e) }

@@ -7,8 +7,8 @@ returns-then-state-lt-HEADER c = no_header c.args.state.now c.if-state-lt-HEADER
 pub returns-then-state-ne-MARK : goal.returns-then-state-ne-MARK
 returns-then-state-ne-MARK c = no_mark c.args.state.now c.if-state-ne-MARK.true
 
-pub returns-then-is-good : goal.returns-then-is-good
-returns-then-is-good c = a_plan c.args.state.now c.if-state-lt-HEADER.false c.if-state-ne-MARK.false c.if-is-good.ensures
+pub returns-then-is_good : goal.returns-then-is_good
+returns-then-is_good c = a_plan c.args.state.now c.if-state-lt-HEADER.false c.if-state-ne-MARK.false c.if-is_good.ensures
 
-pub returns-else-is-good : goal.returns-else-is-good
-returns-else-is-good c = no_plan c.args.state.now c.if-is-good.ensures
+pub returns-else-is_good : goal.returns-else-is_good
+returns-else-is_good c = no_plan c.args.state.now c.if-is_good.ensures

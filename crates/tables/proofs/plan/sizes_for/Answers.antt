@@ -8,31 +8,31 @@ returns-then-not-few c = many c.args.limits c.args.size c.if-not-few.ensures
 pub returns-then-not-small : goal.returns-then-not-small
 returns-then-not-small c = large c.args.limits c.args.size c.if-not-small.ensures
 
-pub overflow-mul-result : goal.overflow-mul-result
-overflow-mul-result c =
+pub overflow_mul-result : goal.overflow_mul-result
+overflow_mul-result c =
     let f = fitting c.args.limits c.args.size c.if-not-few.ensures c.if-not-small.ensures in
     omega arith
 
-pub overflow-add-result-2 : goal.overflow-add-result-2
-overflow-add-result-2 c =
+pub overflow_add-result-2 : goal.overflow_add-result-2
+overflow_add-result-2 c =
     let f = fitting c.args.limits c.args.size c.if-not-few.ensures c.if-not-small.ensures in
     omega arith
 
-pub overflow-add-result-3 : goal.overflow-add-result-3
-overflow-add-result-3 c =
+pub overflow_add-result-3 : goal.overflow_add-result-3
+overflow_add-result-3 c =
     let f = fitting c.args.limits c.args.size c.if-not-few.ensures c.if-not-small.ensures in
     omega arith
 
-pub overflow-mul-result-4 : goal.overflow-mul-result-4
-overflow-mul-result-4 c =
+pub overflow_mul-result-4 : goal.overflow_mul-result-4
+overflow_mul-result-4 c =
     let f = fitting c.args.limits c.args.size c.if-not-few.ensures c.if-not-small.ensures in
     omega arith
 
-pub overflow-add-result-5 : goal.overflow-add-result-5
-overflow-add-result-5 c =
+pub overflow_add-result-5 : goal.overflow_add-result-5
+overflow_add-result-5 c =
     let f = fitting c.args.limits c.args.size c.if-not-few.ensures c.if-not-small.ensures in
     omega arith
 
 pub returns : goal.returns
 returns c =
-    simp c.words-needed.ensures (both_good c.args.limits c.args.size c.if-not-few.ensures c.if-not-small.ensures)
+    simp c.words_needed.ensures (both_good c.args.limits c.args.size c.if-not-few.ensures c.if-not-small.ensures)

@@ -8,7 +8,7 @@ loop-i-init c = no_cell (game_at c.args.rules.now) c.args.cells.now
 
 pub loop-i-preserved : goal.loop-i-preserved
 loop-i-preserved c =
-    cell_written (game_at c.args.rules.now) c.loop-i.cells c.loop-i.i c.start-cell.result (omega arith) c.loop-i.invariant c.start-cell.ensures
+    cell_written (game_at c.args.rules.now) c.loop-i.cells c.loop-i.i c.start_cell.result (omega arith) c.loop-i.invariant c.start_cell.ensures
 
 pub returns : goal.returns
 returns c =

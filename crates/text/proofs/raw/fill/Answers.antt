@@ -6,11 +6,11 @@ use Rattle.text.proofs.raw.fill.Goals as goal
 pub loop-i-init : goal.loop-i-init
 loop-i-init c = start c.args.line.now c.args.from (length c.args.bytes.now) c.args.bytes.now
 
-pub next-step-requires : goal.next-step-requires
-next-step-requires c = c.loop-i.invariant.small
+pub next_step-requires : goal.next_step-requires
+next_step-requires c = c.loop-i.invariant.small
 
-pub overflow-add-count : goal.overflow-add-count
-overflow-add-count c = search (rules, c.loop-i.invariant.few)
+pub overflow_add-count : goal.overflow_add-count
+overflow_add-count c = search (rules, c.loop-i.invariant.few)
 
 pub returns-in-Wrong : goal.returns-in-Wrong
 returns-in-Wrong c =
@@ -19,7 +19,7 @@ returns-in-Wrong c =
 
 pub loop-i-preserved : goal.loop-i-preserved
 loop-i-preserved c =
-    elim c.match-next-step.branch [
+    elim c.match-next_step.branch [
       | in-Blank w ↦ moved c.args.line.now c.args.from (length c.args.bytes.now) _ _ _ _ _ _ _ w.bytes-is w.awaits-is w.count-is
           (after_blank c.args.line.now c.args.from (length c.args.bytes.now) c.loop-i.bytes c.loop-i.awaits c.loop-i.count c.loop-i.i c.loop-i.invariant c.loop-i-test.true w.in-Blank.ensures.value)
       | in-First w ↦ moved c.args.line.now c.args.from (length c.args.bytes.now) _ _ _ _ _ _ _ w.bytes-is w.awaits-is w.count-is
@@ -38,7 +38,7 @@ returns-in-Second c =
     end_half c.args.line.now c.args.from (length c.args.bytes.now) c.loop-i.bytes c.loop-i.awaits c.loop-i.count c.loop-i.i c.in-Second.field-0
     c.loop-i.invariant c.in-Second.is c.loop-i-test.false
 
-pub returns-in-default : goal.returns-in-default
-returns-in-default c =
+pub returns-in_default : goal.returns-in_default
+returns-in_default c =
     end_whole c.args.line.now c.args.from (length c.args.bytes.now) c.loop-i.bytes c.loop-i.awaits c.loop-i.count c.loop-i.i c.loop-i.invariant
-    c.in-default.not-Second c.loop-i-test.false
+    c.in_default.not-Second c.loop-i-test.false

@@ -2,17 +2,17 @@ use Rattle.std.proofs.Common.{rules}
 use Rattle.text.specs.RawReader.{step_of}
 use Rattle.text.proofs.raw.next_step.Goals as goal
 
-pub returns-then-is-blank-2 : goal.returns-then-is-blank-2
+pub returns-then-is_blank-2 : goal.returns-then-is_blank-2
 unfolding step_of
-returns-then-is-blank-2 c = search rules
+returns-then-is_blank-2 c = search rules
 
-pub returns-then-is-blank : goal.returns-then-is-blank
+pub returns-then-is_blank : goal.returns-then-is_blank
 unfolding step_of
-returns-then-is-blank c = search rules
+returns-then-is_blank c = search rules
 
-pub returns-else-is-blank : goal.returns-else-is-blank
+pub returns-else-is_blank : goal.returns-else-is_blank
 unfolding step_of
-returns-else-is-blank c = search rules
+returns-else-is_blank c = search rules
 
 pub returns-in-Some : goal.returns-in-Some
 unfolding step_of
@@ -22,10 +22,10 @@ pub returns-in-None : goal.returns-in-None
 unfolding step_of
 returns-in-None c = search rules
 
-pub returns-in-Some-hex-value : goal.returns-in-Some-hex-value
+pub returns-in-Some-hex_value : goal.returns-in-Some-hex_value
 unfolding step_of
-returns-in-Some-hex-value c = search rules
+returns-in-Some-hex_value c = search rules
 
-pub returns-in-None-hex-value : goal.returns-in-None-hex-value
+pub returns-in-None-hex_value : goal.returns-in-None-hex_value
 unfolding step_of
-returns-in-None-hex-value c = search rules
+returns-in-None-hex_value c = search rules

@@ -27,5 +27,5 @@ returns c =
     let long = length_fields_bytes c.args.fields.now in
     record {
       size = room_for 0 (1 + 4 * length c.args.fields.now) bs c.args.out.now (omega arith) (omega arith);
-      bytes = after_kind c.args.out.now c.args.kind c.args.fields.now c.put-fields.ensures (omega arith);
+      bytes = after_kind c.args.out.now c.args.kind c.args.fields.now c.put_fields.ensures (omega arith);
     }

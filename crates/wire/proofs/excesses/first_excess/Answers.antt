@@ -4,33 +4,33 @@ use Rattle.wire.proofs.GamesCheck.{below_from}
 use Rattle.wire.proofs.GamesExcess.{nothing_broken, count_broken, bound_or_depth}
 use Rattle.wire.proofs.excesses.first_excess.Goals as goal
 
-pub returns-in-default : goal.returns-in-default
+pub returns-in_default : goal.returns-in_default
 unfolding excess_of
-returns-in-default c = sym (ap excess_of c.in-default.ensures)
+returns-in_default c = sym (ap excess_of c.in_default.ensures)
 
-pub returns-then-keeps-limits : goal.returns-then-keeps-limits
-returns-then-keeps-limits c =
+pub returns-then-keeps_limits : goal.returns-then-keeps_limits
+returns-then-keeps_limits c =
     let bs = c.args.game.now in
     let x = c.in-Some.ensures in
-    nothing_broken bs c.in-Some.found x.0 (below_from bs (λ i. (c.type-inv.game i).fits)) x.1 (sym c.keeps-limits.ensures ∙ c.if-keeps-limits.true)
+    nothing_broken bs c.in-Some.found x.0 (below_from bs (λ i. (c.type_inv.game i).fits)) x.1 (sym c.keeps_limits.ensures ∙ c.if-keeps_limits.true)
 
-pub returns-in-Some-outside-limits : goal.returns-in-Some-outside-limits
-returns-in-Some-outside-limits c =
+pub returns-in-Some-outside_limits : goal.returns-in-Some-outside_limits
+returns-in-Some-outside_limits c =
     let bs = c.args.game.now in
     let x = c.in-Some.ensures in
-    count_broken bs c.in-Some.found x.0 (below_from bs (λ i. (c.type-inv.game i).fits)) x.1 (sym c.keeps-limits.ensures ∙ c.if-keeps-limits.false)
-    c.in-Some-outside-limits.excess c.in-Some-outside-limits.ensures
+    count_broken bs c.in-Some.found x.0 (below_from bs (λ i. (c.type_inv.game i).fits)) x.1 (sym c.keeps_limits.ensures ∙ c.if-keeps_limits.false)
+    c.in-Some-outside_limits.excess c.in-Some-outside_limits.ensures
 
-pub returns-in-Some-large-bound : goal.returns-in-Some-large-bound
-returns-in-Some-large-bound c =
+pub returns-in-Some-large_bound : goal.returns-in-Some-large_bound
+returns-in-Some-large_bound c =
     let bs = c.args.game.now in
     let x = c.in-Some.ensures in
-    bound_or_depth bs c.in-Some.found x.0 (below_from bs (λ i. (c.type-inv.game i).fits)) x.1 (sym c.keeps-limits.ensures ∙ c.if-keeps-limits.false)
-    c.in-default-outside-limits.ensures (Some c.in-Some-large-bound.excess) c.in-Some-large-bound.ensures
+    bound_or_depth bs c.in-Some.found x.0 (below_from bs (λ i. (c.type_inv.game i).fits)) x.1 (sym c.keeps_limits.ensures ∙ c.if-keeps_limits.false)
+    c.in_default-outside_limits.ensures (Some c.in-Some-large_bound.excess) c.in-Some-large_bound.ensures
 
 pub returns-in-None : goal.returns-in-None
 returns-in-None c =
     let bs = c.args.game.now in
     let x = c.in-Some.ensures in
-    bound_or_depth bs c.in-Some.found x.0 (below_from bs (λ i. (c.type-inv.game i).fits)) x.1 (sym c.keeps-limits.ensures ∙ c.if-keeps-limits.false)
-    c.in-default-outside-limits.ensures None c.in-None.ensures
+    bound_or_depth bs c.in-Some.found x.0 (below_from bs (λ i. (c.type_inv.game i).fits)) x.1 (sym c.keeps_limits.ensures ∙ c.if-keeps_limits.false)
+    c.in_default-outside_limits.ensures None c.in-None.ensures

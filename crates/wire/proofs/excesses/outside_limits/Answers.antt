@@ -10,17 +10,17 @@ pub returns-then-found-lt1-2 : goal.returns-then-found-lt1-2
 unfolding count_excess
 returns-then-found-lt1-2 c = search rules
 
-pub returns-then-found-gt-MOST-RULES : goal.returns-then-found-gt-MOST-RULES
+pub returns-then-found-gt-MOST_RULES : goal.returns-then-found-gt-MOST_RULES
 unfolding count_excess
-returns-then-found-gt-MOST-RULES c = search rules
+returns-then-found-gt-MOST_RULES c = search rules
 
-pub returns-then-found-gt-MOST-MOVES : goal.returns-then-found-gt-MOST-MOVES
+pub returns-then-found-gt-MOST_MOVES : goal.returns-then-found-gt-MOST_MOVES
 unfolding count_excess
-returns-then-found-gt-MOST-MOVES c = search rules
+returns-then-found-gt-MOST_MOVES c = search rules
 
-pub returns-then-found-gt-MOST-PARTS : goal.returns-then-found-gt-MOST-PARTS
+pub returns-then-found-gt-MOST_PARTS : goal.returns-then-found-gt-MOST_PARTS
 unfolding count_excess
-returns-then-found-gt-MOST-PARTS c = search rules
+returns-then-found-gt-MOST_PARTS c = search rules
 
 pub returns : goal.returns
 unfolding count_excess

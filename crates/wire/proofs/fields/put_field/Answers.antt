@@ -7,6 +7,6 @@ pub returns : goal.returns
 unfolding number_bytes
 returns c = written_four c.args.bytes.now c.args.at _ _ _ _ (omega arith)
 
-pub returns-then-saturating-sub-lt4 : goal.returns-then-saturating-sub-lt4
+pub returns-then-saturating_sub-lt4 : goal.returns-then-saturating_sub-lt4
 unfolding number_bytes
-returns-then-saturating-sub-lt4 c = sym (written_none c.args.at (number_bytes 4 c.args.n) c.args.bytes.now (omega arith))
+returns-then-saturating_sub-lt4 c = sym (written_none c.args.at (number_bytes 4 c.args.n) c.args.bytes.now (omega arith))

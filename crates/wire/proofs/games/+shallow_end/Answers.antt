@@ -17,27 +17,27 @@ returns-then-levels-eq0 t c =
     subst (λ l. Shallow bs c.args.at c.args.count l None) none
     (subst (λ n. Shallow bs c.args.at n 0 None) some (no_level bs c.args.at (c.args.count - 1)))
 
-pub returns-in-default : goal.returns-in-default
-returns-in-default t c =
+pub returns-in_default : goal.returns-in_default
+returns-in_default t c =
     let bs = c.args.bytes.now in
     at_more bs c.args.at c.args.count c.args.levels None (omega arith) (omega arith)
-    (no_head bs c.args.at (c.args.count - 1) (suc (c.args.levels - 1)) c.in-default.ensures)
+    (no_head bs c.args.at (c.args.count - 1) (suc (c.args.levels - 1)) c.in_default.ensures)
 
-pub returns-in-default-shallow-end : goal.returns-in-default-shallow-end
-returns-in-default-shallow-end t c =
+pub returns-in_default-shallow_end : goal.returns-in_default-shallow_end
+returns-in_default-shallow_end t c =
     let bs = c.args.bytes.now in
     let head = c.in-Some.ensures in
     at_more bs c.args.at c.args.count c.args.levels None (omega arith) (omega arith)
     (parts_deep bs c.args.at c.in-Some.head.next c.in-Some.head.parts (c.args.count - 1) (c.args.levels - 1) head.0 head.1
-    c.in-default-shallow-end.ensures)
+    c.in_default-shallow_end.ensures)
 
 pub returns : goal.returns
 returns t c =
     let bs = c.args.bytes.now in
     let head = c.in-Some.ensures in
-    let first = c.in-Some-shallow-end.ensures in
+    let first = c.in-Some-shallow_end.ensures in
     let levels : suc (c.args.levels - 1) ≡ c.args.levels = omega arith in
-    at_more bs c.args.at c.args.count c.args.levels c.shallow-end-2.result (omega arith) (omega arith)
+    at_more bs c.args.at c.args.count c.args.levels c.shallow_end-2.result (omega arith) (omega arith)
     (others_next bs c.args.at c.in-Some.head.next c.in-Some.head.parts (c.args.count - 1) (c.args.levels - 1) head.0 head.1
-    c.in-Some-shallow-end.next first.0 first.1 first.2 c.shallow-end-2.result
-    (subst (λ l. Shallow bs c.in-Some-shallow-end.next (c.args.count - 1) l c.shallow-end-2.result) (sym levels) c.shallow-end-2.ensures))
+    c.in-Some-shallow_end.next first.0 first.1 first.2 c.shallow_end-2.result
+    (subst (λ l. Shallow bs c.in-Some-shallow_end.next (c.args.count - 1) l c.shallow_end-2.result) (sym levels) c.shallow_end-2.ensures))

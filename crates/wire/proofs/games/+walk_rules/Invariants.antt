@@ -1,4 +1,4 @@
 use Rattle.wire.proofs.games.+walk_rules.Given as goal
 
-abbrev pub decreases-walk-rules : goal.decreases-walk-rules
-decreases-walk-rules l = l.count
+abbrev pub decreases-walk_rules : goal.decreases-walk_rules
+decreases-walk_rules l = l.count

@@ -9,8 +9,8 @@ returns-then-kind-eq1 c = record { known = λ lo hi. let e = arity_table c.args.
 pub returns-then-kind-lt5 : goal.returns-then-kind-lt5
 returns-then-kind-lt5 c = record { known = λ lo hi. let e = arity_table c.args.kind lo hi in grind (arith, nat_tests); few = omega arith }
 
-pub returns-then-kind-lt-LAST-KIND : goal.returns-then-kind-lt-LAST-KIND
-returns-then-kind-lt-LAST-KIND c = record { known = λ lo hi. let e = arity_table c.args.kind lo hi in grind (arith, nat_tests); few = omega arith }
+pub returns-then-kind-lt-LAST_KIND : goal.returns-then-kind-lt-LAST_KIND
+returns-then-kind-lt-LAST_KIND c = record { known = λ lo hi. let e = arity_table c.args.kind lo hi in grind (arith, nat_tests); few = omega arith }
 
-pub returns-else-kind-lt-LAST-KIND : goal.returns-else-kind-lt-LAST-KIND
-returns-else-kind-lt-LAST-KIND c = record { known = λ lo hi. let e = arity_table c.args.kind lo hi in grind (arith, nat_tests); few = omega arith }
+pub returns-else-kind-lt-LAST_KIND : goal.returns-else-kind-lt-LAST_KIND
+returns-else-kind-lt-LAST_KIND c = record { known = λ lo hi. let e = arity_table c.args.kind lo hi in grind (arith, nat_tests); few = omega arith }

@@ -10,13 +10,13 @@ returns-then-bytes-at-lt3 c = short_number c.args.bytes.now c.args.at (omega ari
 
 pub returns-then-kind-eq0 : goal.returns-then-kind-eq0
 returns-then-kind-eq0 c =
-    number_head c.args.bytes.now c.args.at (omega arith) (omega arith) (omega arith) (c.type-inv.bytes (c.args.at + 1)).fits
-    (c.type-inv.bytes (c.args.at + 2)).fits
+    number_head c.args.bytes.now c.args.at (omega arith) (omega arith) (omega arith) (c.type_inv.bytes (c.args.at + 1)).fits
+    (c.type_inv.bytes (c.args.at + 2)).fits
 
-pub returns-then-kind-gt-LAST-KIND : goal.returns-then-kind-gt-LAST-KIND
-returns-then-kind-gt-LAST-KIND c = unknown_kind c.args.bytes.now c.args.at (omega arith) (omega arith)
+pub returns-then-kind-gt-LAST_KIND : goal.returns-then-kind-gt-LAST_KIND
+returns-then-kind-gt-LAST_KIND c = unknown_kind c.args.bytes.now c.args.at (omega arith) (omega arith)
 
 pub returns : goal.returns
 returns c =
-    kind_head c.args.bytes.now c.args.at (omega arith) c.arity-of.result (omega arith) (omega arith)
-    (c.arity-of.ensures.known (omega arith) (omega arith)) c.arity-of.ensures.few
+    kind_head c.args.bytes.now c.args.at (omega arith) c.arity_of.result (omega arith) (omega arith)
+    (c.arity_of.ensures.known (omega arith) (omega arith)) c.arity_of.ensures.few

@@ -4,8 +4,8 @@ use Rattle.wire.specs.Exprs.{read_exprs}
 use Rattle.wire.proofs.GamesSkip.{handed_on}
 use Rattle.wire.proofs.games.skip_exprs.Goals as goal
 
-pub returns-in-default : goal.returns-in-default
-returns-in-default c = ap (read_exprs c.args.count) (sym (take_rest c.args.bytes.now c.args.at)) ∙ c.in-default.ensures
+pub returns-in_default : goal.returns-in_default
+returns-in_default c = ap (read_exprs c.args.count) (sym (take_rest c.args.bytes.now c.args.at)) ∙ c.in_default.ensures
 
 pub returns : goal.returns
 returns c =

@@ -12,12 +12,12 @@ returns-then-bytes-i c =
     tallied_none 0 _ (sym c.loop-pending.invariant.0
     ∙ ap (tallied c.loop-pending.parts) (too_few c.loop-pending.pending (drop i bs) (omega (arith, length-drop i bs))))
 
-pub returns-in-default : goal.returns-in-default
-returns-in-default c =
+pub returns-in_default : goal.returns-in_default
+returns-in_default c =
     let bs = c.args.bytes.now in
     let more : c.loop-pending.pending ≡ suc (c.loop-pending.pending - 1) = omega arith in
     tallied_none 0 _ (sym c.loop-pending.invariant.0
-    ∙ ap (tallied c.loop-pending.parts) (ap (λ n. read_exprs n (drop c.loop-pending.i bs)) more ∙ c.in-default.ensures (c.loop-pending.pending - 1)))
+    ∙ ap (tallied c.loop-pending.parts) (ap (λ n. read_exprs n (drop c.loop-pending.i bs)) more ∙ c.in_default.ensures (c.loop-pending.pending - 1)))
 
 pub loop-pending-preserved : goal.loop-pending-preserved
 loop-pending-preserved c =
