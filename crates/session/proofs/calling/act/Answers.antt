@@ -29,13 +29,13 @@ returns-in-May c =
 pub returns-in-Ticks : goal.returns-in-Ticks
 returns-in-Ticks c =
     subst (λ x. Acts c.args.rules.now c.args.state.now c.args.answer.now x c.args.state.now c.write_refusal.new.answer c.write_refusal.result) (sym c.in-Ticks.is)
-    (no_ticks c.args.rules.now c.args.state.now c.args.answer.now c.write_refusal.new.answer c.write_refusal.result c.refusal_of.result c.refusal_of.ensures.number c.in-Ticks.-n
+    (no_ticks c.args.rules.now c.args.state.now c.args.answer.now c.write_refusal.new.answer c.write_refusal.result c.refusal_of.result c.refusal_of.ensures.number c.in-Ticks._n
     c.refusal_of.ensures.place c.write_refusal.ensures.size c.write_refusal.ensures.bytes)
 
 pub returns-in-Back : goal.returns-in-Back
 returns-in-Back c =
     subst (λ x. Acts c.args.rules.now c.args.state.now c.args.answer.now x c.args.state.now c.write_refusal-in-Back.new.answer c.write_refusal-in-Back.result) (sym c.in-Back.is)
-    (no_back c.args.rules.now c.args.state.now c.args.answer.now c.write_refusal-in-Back.new.answer c.write_refusal-in-Back.result c.refusal_of-in-Back.result c.refusal_of-in-Back.ensures.number c.in-Back.-t c.in-Back.-n
+    (no_back c.args.rules.now c.args.state.now c.args.answer.now c.write_refusal-in-Back.new.answer c.write_refusal-in-Back.result c.refusal_of-in-Back.result c.refusal_of-in-Back.ensures.number c.in-Back._t c.in-Back._n
     c.refusal_of-in-Back.ensures.place c.write_refusal-in-Back.ensures.size c.write_refusal-in-Back.ensures.bytes)
 
 pub returns-in-CanForce : goal.returns-in-CanForce

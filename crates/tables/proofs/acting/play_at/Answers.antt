@@ -42,14 +42,14 @@ pub returns-in_default-legal : goal.returns-in_default-legal
 returns-in_default-legal c =
     let e = not_legal (game_at c.args.rules.now) c.args.state.now c.args.p c.args.table c.args.player c.args.played
     c.in-Some.at c.in-Some.ensures c.in-Some-not_over.count c.in-Some-not_over.ensures _ (omega arith)
-    c.in-Some-whose_turn.-me c.in-Some-whose_turn.ensures c.in_default-legal.ensures in
+    c.in-Some-whose_turn._me c.in-Some-whose_turn.ensures c.in_default-legal.ensures in
     record { after = sym (ap (λ o. o.0) e); says = sym (ap (λ o. o.1) e) }
 
 pub returns-in_default-free_entry : goal.returns-in_default-free_entry
 returns-in_default-free_entry c =
     let e = too_many (game_at c.args.rules.now) c.args.state.now c.args.p c.args.table c.args.player c.args.played
     c.in-Some.at c.in-Some.ensures c.in-Some-not_over.count c.in-Some-not_over.ensures _ (omega arith)
-    c.in-Some-whose_turn.-me c.in-Some-whose_turn.ensures c.in-Some-legal.v c.in-Some-legal.ensures
+    c.in-Some-whose_turn._me c.in-Some-whose_turn.ensures c.in-Some-legal.v c.in-Some-legal.ensures
     c.in_default-free_entry.ensures in
     record { after = sym (ap (λ o. o.0) e); says = sym (ap (λ o. o.1) e) }
 
@@ -63,6 +63,6 @@ pub returns : goal.returns
 returns c =
     let e = move_there (game_at c.args.rules.now) c.args.state.now c.args.p c.args.table c.args.player c.args.played
     c.in-Some.at c.in-Some.ensures c.in-Some-not_over.count c.in-Some-not_over.ensures _ (omega arith)
-    c.in-Some-whose_turn.-me c.in-Some-whose_turn.ensures c.in-Some-legal.v c.in-Some-legal.ensures
+    c.in-Some-whose_turn._me c.in-Some-whose_turn.ensures c.in-Some-legal.v c.in-Some-legal.ensures
     c.in-Some-free_entry.entry c.in-Some-free_entry.ensures in
     record { after = c.add_move.ensures ∙ sym (ap (λ o. o.0) e); says = ap (λ x. Ok x) c.saturating_add.ensures ∙ sym (ap (λ o. o.1) e) }
