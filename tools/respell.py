@@ -20,7 +20,7 @@ HEAD = re.compile(r"( *)((?:(?:abbrev|unfoldable|pub|data|record|private|opaque)
 RUST = re.compile(r'(//[^\n]*)|(b?"(?:[^"\\]|\\.)*")|(' + r"[^\W\d][\w'′]*(?:-[\w'′]+)+" + ")")
 CRATES = {"bytes": "wire", "bytes_tests": "wire_tests"}
 # Names that stay, since what they would become has another meaning where they are used.
-STAY = set()
+STAY = {"lines"}
 
 
 def files(root, *ends):

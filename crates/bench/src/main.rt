@@ -1,12 +1,9 @@
-// bench [TIMES]: loads noughts and crosses, works out for every board whether somebody has three in a row, by the game's own expression,
-// and lists the moves in every position that play can lead to. With TIMES it does both as often and says how long the best took.
+// bench [TIMES]: loads noughts and crosses, and works out for every board whether somebody has three in a row, by the game's own expression.
+// With TIMES it does so as often and says how long the best took.
 #![tactic(auto)]
-
-mod listings;
 
 use anyhow::anyhow;
 use eval::eval;
-use listings::{list_all, reachable};
 use std::time::Instant;
 use std::{env, fs};
 
@@ -54,37 +51,17 @@ fn show_gains(rt: &HostRuntime, rules: &[u32], gain: u32, cells: &[u32]) -> anyh
     Ok(())
 }
 
-fn best_of_boards(
-    rt: &HostRuntime,
-    rules: &[u32],
-    over: u32,
-    cells: &mut [u32],
-    turns: u32,
-) -> anyhow::Result<()> {
+fn best_of(rt: &HostRuntime, rules: &[u32], over: u32, cells: &mut [u32]) -> anyhow::Result<()> {
+    let turns = times(rt)?;
     let mut best = u128::MAX;
     for _ in 0..turns {
         let start = Instant::now(rt)?;
         rows_of_three(rules, over, cells);
         best = best.min(start.elapsed(rt)?.as_nanos());
     }
-    println!(rt; "boards: best {best} ns")?;
-    Ok(())
-}
-
-fn best_of_listings(
-    rt: &HostRuntime,
-    rules: &[u32],
-    positions: &[u32],
-    answer: &mut [u8],
-    turns: u32,
-) -> anyhow::Result<()> {
-    let mut best = u128::MAX;
-    for _ in 0..turns {
-        let start = Instant::now(rt)?;
-        list_all(rules, positions, answer);
-        best = best.min(start.elapsed(rt)?.as_nanos());
+    if turns > 0 {
+        println!(rt; "best {best} ns")?;
     }
-    println!(rt; "listings: best {best} ns")?;
     Ok(())
 }
 
@@ -96,19 +73,9 @@ fn main(rt: HostRuntime) -> anyhow::Result<()> {
     }
     let game = rows::read_game(&rules);
     let mut cells: Vec<u32> = vec![in rt.alloc(); 0; 10]?;
-    let mut answer: Vec<u8> = vec![in rt.alloc(); 0; 4216]?;
     let count = rows_of_three(&rules, game.terminal, &mut cells);
     println!(rt; "{count} of {BOARDS} boards have a row of three")?;
     show_gains(&rt, &rules, game.payoff, &WON)?;
     show_gains(&rt, &rules, game.payoff, &DRAWN)?;
-    let positions = reachable(&rt, &rules)?;
-    let reached = positions.len() / 10;
-    let listed = list_all(&rules, &positions, &mut answer);
-    println!(rt; "{listed} moves are listed in {reached} positions")?;
-    let turns = times(&rt)?;
-    if turns > 0 {
-        best_of_boards(&rt, &rules, game.terminal, &mut cells, turns)?;
-        best_of_listings(&rt, &rules, &positions, &mut answer, turns)?;
-    }
-    Ok(())
+    best_of(&rt, &rules, game.terminal, &mut cells)
 }

@@ -1,12 +1,15 @@
--- What a line of a calls file asks. Assumes nothing: these are definitions.
-use Rattle.std.specs.Prelude.{◌≡◌, ℕ, ◌-◌, ◌≤◌, cond, ◌&&◌, ◌⊎◌, List, length, take, Ok, Err, MatchBool, ◌==◌, nat_le, slice_index}
+-- What is answered to a line of a calls file. Assumes nothing: these are definitions.
+use Rattle.std.specs.Prelude.{◌≡◌, ℕ, ◌-◌, max, cond, ◌&&◌, ◌⊎◌, List, length, take, Ok, Err, MatchBool, Result, MatchResult, ◌==◌, nat_le, slice_index}
+use Rattle.rules.specs.declared.Limits.{Limits}
+use Rattle.rules.specs.Calls.{State, Answer, refused, no_calls, answer}
 use Rattle.rules.specs.declared.Call.{Call}
-use Rattle.wire.specs.Calls.{call_bytes, parse_call}
+use Rattle.wire.specs.Calls.{parse_call}
 use Rattle.text.specs.Grammar.{IsLine, ReadsAs, passed_over}
+use Rattle.text.specs.Reader.{call_of}
 use Rattle.text.specs.Raw.{IsRaw, IsEither}
-use Rattle.commands.specs.declared.lines.CallBytes.{CallBytes}
-use Rattle.commands.specs.declared.lines.Asked.{Asked}
-use Rattle.commands.specs.declared.lines.Asked.TheVariants as asked
+use Rattle.text.specs.RawReader.{raw_of}
+use Rattle.commands.specs.declared.lines.Reply.{Reply}
+use Rattle.commands.specs.declared.lines.Reply.TheVariants.{Nothing, NoCall, Refused}
 
 -- where a line's own letters end: before its LF, and before a CR in front of that
 abbrev pub end_of_line : List ℕ → ℕ
@@ -17,33 +20,33 @@ end_of_line bs =
 abbrev pub letters : List ℕ → List ℕ
 letters bs = take (end_of_line bs) bs
 
--- the bytes that are kept
-abbrev pub held : CallBytes → List ℕ
-held k = take k.count k.bytes
+-- the call that a line stands for: the one that the bytes are which it says, or its own. Where there is none: the place in the bytes that ceases to be a call,
+-- or, of a line that says no bytes either, the larger of the two places
+abbrev pub stands_for : Result (List ℕ) ℕ → Result Call ℕ → Result Call ℕ
+stands_for (Ok bs) call = parse_call bs
+stands_for (Err m) (Ok c) = Ok c
+stands_for (Err m) (Err n) = Err (max m n)
 
--- bs are kept, all of them and no more
-abbrev pub Holds : List ℕ → CallBytes → Type 0
-Holds bs k = (k.count ≡ length bs) × (held k ≡ bs)
+unfoldable pub line_call : List ℕ → Result Call ℕ
+line_call line = stands_for (raw_of line) (call_of line)
 
--- what letters ask that are not passed over: the bytes of their call, or the first 22 of the bytes that they say; or, of a line of neither sort, nothing but the
--- length of its longest front that some line of either sort begins with
-abbrev pub Says : List ℕ → Asked → Type 0
-Says s asked.Nothing = ⊥
-Says s (asked.NoCall n) = ReadsAs IsEither s (Err n)
-Says s (asked.Call k) = ((c : Call) × IsLine c s × Holds (call_bytes c) k) ⊎ ((bs : List ℕ) × IsRaw bs s × Holds (take 22 bs) k)
+-- what the line of a call, or of bytes that are one, is; or else: bytes that cease to be a call at n, or a line of neither sort, n being the length of its longest
+-- front that some line of either sort begins with
+abbrev pub Means : List ℕ → Result Call ℕ → Type 0
+Means line (Ok c) = IsLine c line ⊎ ((bs : List ℕ) × IsRaw bs line × (parse_call bs ≡ Ok c))
+Means line (Err n) = ((bs : List ℕ) × IsRaw bs line × (parse_call bs ≡ Err n)) ⊎ ReadsAs IsEither line (Err n)
 
--- what a line asks: nothing if it is passed over
-abbrev pub Asks : List ℕ → Asked → Type 0
-Asks line r = MatchBool (passed_over (letters line)) (r ≡ asked.Nothing) (Says (letters line) r)
+-- the call that a line stands for is so by the grammar, and so is the place where there is none
+abbrev pub LineCallMeans : Type 0
+LineCallMeans = (line : List ℕ) → Means line (line_call line)
 
--- no more is kept than has room
-abbrev pub Few : Asked → Type 0
-Few asked.Nothing = Unit {0}
-Few (asked.NoCall n) = Unit {0}
-Few (asked.Call k) = k.count ≤ 22
+-- the reply gives this answer
+abbrev pub Gives : Reply → Answer → Type 0
+Gives Nothing a = ⊥
+Gives (NoCall i) a = ⊥
+Gives (Refused x) a = a ≡ refused x
 
--- what is kept of a line is read as the line's call, or as the bytes are that the line says
-abbrev pub ReadAsSaid : Type 0
-ReadAsSaid =
-    (s : List ℕ) (k : CallBytes) → Says s (asked.Call k)
-    → ((c : Call) → IsLine c s → parse_call (held k) ≡ Ok c) × ((bs : List ℕ) → IsRaw bs s → parse_call (held k) ≡ parse_call bs)
+-- nothing to a line that is passed over; to one that stands for a call the answer of a server that can do none; else the place
+abbrev pub Replies : Limits → State → List ℕ → Reply → Type 0
+Replies l s line r =
+    MatchBool (passed_over (letters line)) (r ≡ Nothing) (MatchResult (line_call (letters line)) (λ c. Gives r (answer no_calls l s c)) (λ i. r ≡ NoCall i))

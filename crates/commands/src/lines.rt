@@ -1,27 +1,21 @@
-// What a line of a calls file asks.
-ghost use Rattle.std.specs.Prelude.{◌≡◌, ◌≤◌};
-ghost use Rattle.wire.specs.Calls.{call_bytes};
-ghost use Rattle.commands.specs.Lines.{end_of_line, Holds, Says, Asks, Few, ReadAsSaid};
+// The answer to one line of a calls file.
+ghost use Rattle.std.specs.Prelude.{◌≡◌, length};
+ghost use Rattle.rules.specs.declared.Limits.{Limits};
+ghost use Rattle.rules.specs.Calls.{State, no_calls, answer, refused};
+ghost use Rattle.commands.specs.Lines.{end_of_line, line_call, LineCallMeans, Replies};
 
-use rules::Call;
+use rules::{Call, Refusal};
 
-// How many bytes are kept. No call has more than 21, so these are enough to tell a call from what is longer.
-const MOST: usize = 22;
+// The deepest search that a call may ask for.
+const DEEPEST: u32 = 64;
 
-// The bytes of a call, or of what stands in place of one: so many of them, from the first on.
-#[derive(Clone, Copy)]
-pub struct CallBytes {
-    pub bytes: [u8; 22],
-    pub count: usize,
-}
-
-#[derive(Clone, Copy)]
-pub enum Asked {
+#[derive(Clone, Copy, PartialEq, Eq, Debug)]
+pub enum Reply {
     // the line is blank or a comment
     Nothing,
-    // the line is neither the line of a call nor says bytes: how much of it some such line begins with
+    // the line is no call: how much of it some call line begins with
     NoCall(usize),
-    Call(CallBytes),
+    Refused(Refusal),
 }
 
 // Where a line's own letters end: before its LF, and before a CR that stands in front of that.
@@ -38,50 +32,50 @@ fn end_of_line(line: &[u8]) -> usize
     n - 1
 }
 
-// The bytes of a call, kept.
-fn keep_call(call: Call) -> CallBytes
-    ensures means { Holds (call_bytes call) result }
-    ensures few { result.count ≤ 22 }
+// The answer of a server that can do no call.
+fn refuse(call: Call) -> Refusal
+    ensures { (l : Limits) (s : State) → answer no_calls l s call ≡ refused result }
 {
-    let mut kept = [0; MOST];
-    let count = wire::write_call(call, &mut kept).unwrap_or(0);
-    CallBytes { bytes: kept, count }
+    let place = match call {
+        Call::CanForce { within, .. } => if within > DEEPEST { 3 } else { 0 },
+        _ => 0,
+    };
+    Refusal { number: 2, place }
 }
 
-// What letters say that are not passed over: bytes, or a call by its words.
-fn read_letters(letters: &[u8]) -> Asked
-    ensures means { Says letters.now result }
-    ensures few { Few result }
+// The call that a line stands for, by the bytes that it says or by its words.
+fn read_line(line: &[u8]) -> Result<Call, usize>
+    ensures { result ≡ line_call line.now }
 {
-    match text::read_bytes(letters) {
+    match text::read_bytes(line) {
         Ok(raw) => {
-            let bytes = raw.bytes;
-            let count = raw.count.min(MOST);
-            Asked::Call(CallBytes { bytes, count })
+            let kept = raw.count.min(raw.bytes.len());
+            wire::read_call(&raw.bytes[0..kept])
         }
-        Err(i) => match text::read_call(letters) {
-            Ok(call) => Asked::Call(keep_call(call)),
-            Err(j) => Asked::NoCall(i.max(j)),
+        Err(i) => match text::read_call(line) {
+            Ok(call) => Ok(call),
+            Err(j) => Err(i.max(j)),
         },
     }
 }
 
-// What a line asks, which may still have its LF or CR LF at the end.
-pub fn read_line(line: &[u8]) -> Asked
-    ensures means { Asks line.now result }
-    ensures few { Few result }
+pub fn reply_to(line: &[u8]) -> Reply
+    ensures { (l : Limits) (s : State) → Replies l s line.now result }
 {
     let end = end_of_line(line);
     let letters = &line[0..end];
     if text::is_passed_over(letters) {
-        return Asked::Nothing;
+        return Reply::Nothing;
     }
-    read_letters(letters)
+    match read_line(letters) {
+        Ok(call) => Reply::Refused(refuse(call)),
+        Err(place) => Reply::NoCall(place),
+    }
 }
 
-// The bytes that are kept are read as the line's call, or as the bytes are that the line says.
-pub fn kept_is_read_as_said() -> u8
-    ensures { ReadAsSaid }
+// The call that a line stands for is so by the grammar, and so is the place where there is none.
+pub fn line_call_means() -> u8
+    ensures { LineCallMeans }
 {
     0
 }

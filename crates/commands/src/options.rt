@@ -1,6 +1,6 @@
 // The words of a command line.
 ghost use Rattle.std.specs.Prelude.{◌≡◌, map, string_bytes};
-ghost use Rattle.commands.specs.Options.{begins_as_option, word_kind, with_limit, with_kind, with_file, with_word, asked_of, asked, request_of};
+ghost use Rattle.commands.specs.Options.{begins_as_option, word_kind, with_limit, with_kind, with_file, with_word, asked, request_of};
 
 use rules::Limits;
 
@@ -8,20 +8,10 @@ use rules::Limits;
 #[derive(Clone, Copy, PartialEq, Eq, Debug)]
 pub enum Request {
     Help,
-    // a server for the game, of the ordinary size or the large one, and the calls of a file or of standard input
     Run {
         limits: Limits,
-        large: bool,
         game: usize,
         calls: Option<usize>,
-    },
-    // the game in plain text
-    Print {
-        game: usize,
-    },
-    // the game in its byte form
-    Bytes {
-        game: usize,
     },
 }
 
@@ -42,19 +32,9 @@ enum Limit {
     Positions,
 }
 
-// What is done with the game.
-#[derive(Clone, Copy)]
-enum Task {
-    Run,
-    Print,
-    Bytes,
-}
-
 #[derive(Clone, Copy)]
 enum Kind {
     Help,
-    Large,
-    Do(Task),
     Number(Limit),
     Unknown,
     File,
@@ -64,8 +44,6 @@ enum Kind {
 #[derive(Clone, Copy)]
 struct Given {
     help: bool,
-    large: bool,
-    task: Task,
     limits: Limits,
     awaited: Option<Limit>,
     game: Option<usize>,
@@ -83,15 +61,6 @@ fn kind_of(word: &str) -> Kind
 {
     if word == "--help" {
         return Kind::Help;
-    }
-    if word == "--large" {
-        return Kind::Large;
-    }
-    if word == "--print" {
-        return Kind::Do(Task::Print);
-    }
-    if word == "--bytes" {
-        return Kind::Do(Task::Bytes);
     }
     if word == "--tables" {
         return Kind::Number(Limit::Tables);
@@ -133,11 +102,6 @@ fn take_kind(given: Given, kind: Kind, at: usize) -> Result<Given, Fault>
             help: true,
             ..given
         }),
-        Kind::Large => Ok(Given {
-            large: true,
-            ..given
-        }),
-        Kind::Do(task) => Ok(Given { task, ..given }),
         Kind::Number(limit) => Ok(Given {
             awaited: Some(limit),
             ..given
@@ -180,28 +144,6 @@ fn take_word(given: Given, word: &str, at: usize) -> Result<Given, Fault>
     })
 }
 
-// What is asked for of a game. Only a server takes a second file.
-fn asked_of(given: Given, game: usize) -> Result<Request, Fault>
-    ensures { result ≡ asked_of given given.task game }
-{
-    let alone = match given.task {
-        Task::Run => {
-            return Ok(Request::Run {
-                limits: given.limits,
-                large: given.large,
-                game,
-                calls: given.calls,
-            });
-        }
-        Task::Print => Request::Print { game },
-        Task::Bytes => Request::Bytes { game },
-    };
-    match given.calls {
-        Some(second) => Err(Fault::ExtraFile(second)),
-        None => Ok(alone),
-    }
-}
-
 // What is asked for once all words are taken.
 fn asked_for(given: Given) -> Result<Request, Fault>
     ensures { result ≡ asked given }
@@ -215,7 +157,11 @@ fn asked_for(given: Given) -> Result<Request, Fault>
     let Some(game) = given.game else {
         return Err(Fault::MissingGame);
     };
-    asked_of(given, game)
+    Ok(Request::Run {
+        limits: given.limits,
+        game,
+        calls: given.calls,
+    })
 }
 
 pub fn read_request(words: &[String]) -> Result<Request, Fault>
@@ -223,8 +169,6 @@ pub fn read_request(words: &[String]) -> Result<Request, Fault>
 {
     let mut given = Given {
         help: false,
-        large: false,
-        task: Task::Run,
         limits: Limits {
             tables: 16,
             moves: 1000,

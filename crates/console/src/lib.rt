@@ -6,16 +6,11 @@ ghost use Rattle.commands.specs.Options.{request_of};
 ghost use Rattle.console.specs.Ends.{refused_words};
 ghost use Rattle.rules.specs.Bounds.{good_limits};
 
-mod games;
-
-use commands::{Asked, Fault, Request, read_line, read_request};
-use games::{fail, open_game, refuse, show_game, write_game};
-use printing::print_answer;
+use commands::{Fault, Reply, Request, read_request, reply_to};
 use rules::Limits;
-use session::{call, needs, open};
 use std::fs::File;
-use std::io;
 use std::io::{BufRead, BufReader, BufWriter, Write};
+use std::{fs, io};
 
 // The largest limits that a server may be opened with.
 const MOST_TABLES: u32 = 1024;
@@ -24,9 +19,7 @@ const MOST_MOVES: u32 = 1000000;
 
 const MOST_POSITIONS: u32 = 8192;
 
-const HELP: &str = "answer [--tables N] [--moves N] [--positions N] [--large] GAME [CALLS]
-answer --print GAME
-answer --bytes GAME
+const HELP: &str = "answer [--tables N] [--moves N] [--positions N] GAME [CALLS]
 
 Opens a server for the game in the file GAME and answers the calls in the file
 CALLS, or on standard input: one call a line in, one answer a line out.
@@ -36,9 +29,6 @@ CALLS, or on standard input: one call a line in, one answer a line out.
                  at most 1000000 (1000 unless given)
   --positions N  how many positions a search may look through,
                  at most 8192 (256 unless given)
-  --large        serve games of more than 16 cells or 256 possible moves too
-  --print        print the game in plain text
-  --bytes        write the game in byte form
   --help         this text
 
 Calls:
@@ -46,97 +36,34 @@ Calls:
                                       or no clocks for 0
   play TABLE PLAYER RULE FIRST SECOND
                                       the player makes a move
+  ticks N                             N ticks have gone by
   see TABLE                           the position at a table
   may TABLE                           the moves that may be made
+  back TABLE N                        the position after the first N moves
+  can force TABLE PLAYER GAIN D       whether the player can force the gain
+                                      within D moves, D up to 64
   bytes HH HH ..                      the call that these bytes are, in
                                       hexadecimal: any bytes may be said
 
 Blank lines, and lines that begin with #, are passed over. A line that is no
 call is answered 'refused 1 at N': the first N bytes of it were right, or the
 first N of the bytes that it says.
-This version refuses by 2: ticks N, back TABLE N, can force TABLE PLAYER GAIN D.";
+This version reads calls and does none of them yet: each is refused by 2.";
 
-// A server and its memory. `line` has room for the longest answer as text.
-#[derive(Drop)]
-struct Server {
-    rules: Vec<u32>,
-    state: Vec<u32>,
-    scratch: Vec<u32>,
-    answer: Vec<u8>,
-    line: Vec<u8>,
-}
-
-// A server for a game, in memory of just the sizes that it asks for. An answer's text has at most three letters for each byte, and 5 more.
-fn open_server(rt: &HostRuntime, limits: Limits, game: &[u8]) -> anyhow::Result<Server> {
-    let heap = rt.alloc();
-    let sizes = match needs(limits, game) {
-        Ok(sizes) => sizes,
-        Err(refusal) => return Err(refuse(rt, refusal.place, "no server takes this game")),
-    };
-    let mut server = Server {
-        rules: vec![in heap; 0; sizes.rules]?,
-        state: vec![in heap; 0; sizes.state]?,
-        scratch: vec![in heap; 0; sizes.scratch]?,
-        answer: vec![in heap; 0; sizes.answer]?,
-        line: vec![in heap; 0; sizes.answer.saturating_mul(3).saturating_add(5)]?,
-    };
-    match open(
-        limits,
-        game,
-        server.rules.as_mut_slice(),
-        server.state.as_mut_slice(),
-        server.scratch.as_slice(),
-        server.answer.as_slice(),
-    ) {
-        Ok(_) => Ok(server),
-        Err(refusal) => Err(refuse(rt, refusal.place, "no server takes this game")),
-    }
-}
-
-// The answer to a call in bytes, as a line.
-fn answer_call(
-    server: &mut Server,
-    bytes: &[u8],
-    out: &mut BufWriter<io::Stdout>,
-) -> io::Result<()> {
-    let size = call(
-        server.rules.as_slice(),
-        server.state.as_mut_slice(),
-        server.scratch.as_mut_slice(),
-        bytes,
-        server.answer.as_mut_slice(),
-    );
-    let written = size.min(server.answer.as_slice().len());
-    let answer = &server.answer.as_slice()[0..written];
-    let letters = match print_answer(answer, server.line.as_mut_slice()) {
-        Some(n) => n.min(server.line.as_slice().len()),
-        None => 0,
-    };
-    out.write_all(&server.line.as_slice()[0..letters])?;
-    out.write_all(b"\n")
-}
-
-fn answer_line(
-    server: &mut Server,
-    line: &[u8],
-    out: &mut BufWriter<io::Stdout>,
-) -> io::Result<()> {
-    match read_line(line) {
-        Asked::Nothing => Ok(()),
-        Asked::NoCall(place) => writeln!(out, "refused 1 at {place}"),
-        Asked::Call(asked) => {
-            let count = asked.count.min(asked.bytes.len());
-            answer_call(server, &asked.bytes[0..count], out)
+fn show(out: &mut BufWriter<io::Stdout>, reply: Reply) -> io::Result<()> {
+    match reply {
+        Reply::Nothing => Ok(()),
+        Reply::NoCall(place) => writeln!(out, "refused 1 at {place}"),
+        Reply::Refused(refusal) => {
+            let number = refusal.number;
+            let place = refusal.place;
+            writeln!(out, "refused {number} at {place}")
         }
     }
 }
 
 // Memory does not grow with the number of lines. What is answered is written before more input is waited for.
-fn answer_lines<R: io::Read + Drop>(
-    rt: &HostRuntime,
-    server: &mut Server,
-    input: R,
-) -> io::Result<()> {
+fn answer_lines<R: io::Read + Drop>(rt: &HostRuntime, input: R) -> io::Result<()> {
     let mut reader = BufReader::new(rt.alloc(), input)?;
     let mut out = BufWriter::new(rt.alloc(), rt.stdout())?;
     let mut line: Vec<u8> = Vec::new(rt.alloc());
@@ -148,31 +75,46 @@ fn answer_lines<R: io::Read + Drop>(
         if reader.read_until(b'\n', &mut line)? == 0 {
             break;
         }
-        answer_line(server, line.as_slice(), &mut out)?;
+        show(&mut out, reply_to(line.as_slice()))?;
     }
     out.flush()
 }
 
-fn answer_file(rt: &HostRuntime, server: &mut Server, calls: &str) -> anyhow::Result<()> {
-    match File::open(rt, calls) {
-        Ok(file) => answer_input(rt, server, file),
+// One sentence on standard error, and an error for `main` to end with.
+fn fail(rt: &HostRuntime, sentence: &str) -> anyhow::Result<()>
+    ensures { is_err result ≡ true }
+{
+    eprintln!(rt; "answer: {sentence}")?;
+    Err(anyhow::Error::msg(sentence))
+}
+
+// The game file must be there. It is not understood yet.
+fn open_game(rt: &HostRuntime, game: &str) -> anyhow::Result<()> {
+    match fs::read(rt, game) {
+        Ok(_) => Ok(()),
         Err(e) => {
-            let sentence = format!(in rt.alloc(); "the calls file '{calls}' can't be read: {e}")?;
-            Err(fail(rt, sentence.as_str()))
+            let sentence = format!(in rt.alloc(); "the game file '{game}' can't be read: {e}")?;
+            fail(rt, sentence.as_str())
         }
     }
 }
 
-fn answer_input<R: io::Read + Drop>(
-    rt: &HostRuntime,
-    server: &mut Server,
-    input: R,
-) -> anyhow::Result<()> {
-    match answer_lines(rt, server, input) {
+fn answer_file(rt: &HostRuntime, calls: &str) -> anyhow::Result<()> {
+    match File::open(rt, calls) {
+        Ok(file) => answer_input(rt, file),
+        Err(e) => {
+            let sentence = format!(in rt.alloc(); "the calls file '{calls}' can't be read: {e}")?;
+            fail(rt, sentence.as_str())
+        }
+    }
+}
+
+fn answer_input<R: io::Read + Drop>(rt: &HostRuntime, input: R) -> anyhow::Result<()> {
+    match answer_lines(rt, input) {
         Ok(()) => Ok(()),
         Err(e) => {
             let sentence = format!(in rt.alloc(); "calls can't be read, or answers written: {e}")?;
-            Err(fail(rt, sentence.as_str()))
+            fail(rt, sentence.as_str())
         }
     }
 }
@@ -185,22 +127,22 @@ fn complain(rt: &HostRuntime, words: &[String], fault: Fault) -> anyhow::Result<
         Fault::UnknownOption(i) => {
             let word = word_at(words, i);
             let sentence = format!(in heap; "there is no option '{word}'; see answer --help")?;
-            Err(fail(rt, sentence.as_str()))
+            fail(rt, sentence.as_str())
         }
         Fault::BadNumber(i) => {
             let word = word_at(words, i);
             let sentence = format!(in heap; "'{word}' is no number up to 4294967295")?;
-            Err(fail(rt, sentence.as_str()))
+            fail(rt, sentence.as_str())
         }
         Fault::ExtraFile(i) => {
             let word = word_at(words, i);
             let sentence = format!(in heap;
-                "the file '{word}' is one too many; see answer --help"
+                "a game file and a calls file are all it takes, and '{word}' is one more"
             )?;
-            Err(fail(rt, sentence.as_str()))
+            fail(rt, sentence.as_str())
         }
-        Fault::MissingNumber => Err(fail(rt, "the last option lacks its number")),
-        Fault::MissingGame => Err(fail(rt, "no game file is named; see answer --help")),
+        Fault::MissingNumber => fail(rt, "the last option lacks its number"),
+        Fault::MissingGame => fail(rt, "no game file is named; see answer --help"),
     }
 }
 
@@ -209,23 +151,6 @@ fn word_at(words: &[String], i: usize) -> &str {
         words[i].as_str()
     } else {
         ""
-    }
-}
-
-// Serves the game in a file.
-fn serve(
-    rt: &HostRuntime,
-    words: &[String],
-    limits: Limits,
-    large: bool,
-    game: usize,
-    calls: Option<usize>,
-) -> anyhow::Result<()> {
-    let game = open_game(rt, word_at(words, game), large)?;
-    let mut server = open_server(rt, limits, game.as_slice())?;
-    match calls {
-        Some(i) => answer_file(rt, &mut server, word_at(words, i)),
-        None => answer_input(rt, &mut server, rt.stdin()),
     }
 }
 
@@ -239,18 +164,19 @@ pub fn answer(rt: &HostRuntime, words: &[String]) -> anyhow::Result<()>
             rt.println(HELP)?;
             Ok(())
         }
-        Ok(Request::Print { game }) => show_game(rt, word_at(words, game)),
-        Ok(Request::Bytes { game }) => write_game(rt, word_at(words, game)),
         Ok(
             Request::Run {
                 limits,
-                large,
                 game,
                 calls,
             },
         ) => {
             check_limits(rt, limits)?;
-            serve(rt, words, limits, large, game, calls)
+            open_game(rt, word_at(words, game))?;
+            match calls {
+                Some(i) => answer_file(rt, word_at(words, i)),
+                None => answer_input(rt, rt.stdin()),
+            }
         }
     }
 }
@@ -269,8 +195,9 @@ fn check_limit(rt: &HostRuntime, name: &str, n: u32, most: u32) -> anyhow::Resul
     if n <= most {
         return Ok(());
     }
+    println!(rt; "refused 3 at 1")?;
     let sentence = format!(in rt.alloc();
         "{n} {name} are more than a server has, which is {most}"
     )?;
-    Err(refuse(rt, 1, sentence.as_str()))
+    fail(rt, sentence.as_str())
 }

@@ -3,7 +3,7 @@ mod Splits
 mod Scans
 mod Pieces
 mod Forms
-mod Lines
+pub mod Lines
 pub mod Calls
 mod Passing
 mod Numbers

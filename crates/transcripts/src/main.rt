@@ -1,13 +1,13 @@
-// transcripts WORD WORD WORD WORD ..: runs `answer` on each two words: a game and its calls, or `--print` and a game.
+// transcripts GAME CALLS GAME CALLS ..: answers each calls file for the game before it.
 #![tactic(auto)]
 
 use std::env;
 
 fn main(rt: HostRuntime) -> anyhow::Result<()> {
-    let words: Vec<String> = env::args(&rt)?.skip(1).collect(rt.alloc())?;
-    for pair in words.as_slice().chunks(2) {
-        if let [one, other] = pair {
-            println!(rt; "# {one} {other}")?;
+    let files: Vec<String> = env::args(&rt)?.skip(1).collect(rt.alloc())?;
+    for pair in files.as_slice().chunks(2) {
+        if let [game, calls] = pair {
+            println!(rt; "# {game} {calls}")?;
         }
         console::answer(&rt, pair)?;
     }

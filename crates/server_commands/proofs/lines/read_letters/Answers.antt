@@ -1,6 +1,6 @@
 use Rattle.std.proofs.Common.{arith}
-use Rattle.commands.proofs.Meaning.{by_bytes, by_neither}
-use Rattle.commands.proofs.lines.read_letters.Goals as goal
+use Rattle.server_commands.proofs.Meaning.{by_bytes, by_neither}
+use Rattle.server_commands.proofs.lines.read_letters.Goals as goal
 
 pub returns-in-Ok : goal.returns-in-Ok
 returns-in-Ok c = record {

@@ -1,6 +1,6 @@
 use Rattle.std.proofs.Common.{arith}
-use Rattle.commands.proofs.Meaning.{call_kept, call_few}
-use Rattle.commands.proofs.lines.keep_call.Goals as goal
+use Rattle.server_commands.proofs.Meaning.{call_kept, call_few}
+use Rattle.server_commands.proofs.lines.keep_call.Goals as goal
 
 pub returns : goal.returns
 returns c =

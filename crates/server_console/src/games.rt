@@ -1,7 +1,7 @@
 // Games in files: read as text or as bytes, checked, printed, and a sentence for what is wrong with them.
 // What is refused is said twice: the refusal on standard output, and on standard error a sentence for people.
 ghost use Rattle.std.specs.Prelude.{◌≡◌, IfOk};
-ghost use Rattle.console.specs.Files.{in_bytes, small_enough, Served};
+ghost use Rattle.server_console.specs.Files.{in_bytes, small_enough, Served};
 
 use game_text::{Expected, Fault, line_and_column, read_game};
 use printing::print_game;
@@ -46,7 +46,7 @@ fn words_for(expected: Expected) -> &'static str {
 // One sentence on standard error, and an error for `main` to end with.
 pub(crate) fn fail(rt: &HostRuntime, sentence: &str) -> anyhow::Error {
     match eprintln!(rt; "{sentence}") {
-        Ok(()) => sentence.into(),
+        Ok(()) => anyhow::Error::msg(sentence),
         Err(e) => e.into(),
     }
 }

@@ -1,0 +1,8 @@
+// What the words of a command line ask for, and the lines of a calls file: what the programs decide, apart from files and streams.
+#![tactic(auto)]
+
+mod lines;
+mod options;
+
+pub use lines::{Asked, CallBytes, kept_is_read_as_said, read_line};
+pub use options::{Fault, Request, read_request};
