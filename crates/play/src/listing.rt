@@ -1,5 +1,5 @@
 // The list of all legal moves, written straight into an answer's bytes.
-ghost use Rattle.std.specs.Prelude.{◌≡◌, ◌+◌, ◌*◌, ◌<◌, ◌≤◌, length, MatchOption};
+ghost use Rattle.std.specs.Prelude.{◌≡◌, ◌+◌, ◌*◌, ◌<◌, ◌≤◌, length, OnSome, IfNone};
 ghost use Rattle.rules.specs.Rules as meaning;
 ghost use Rattle.rules.specs.Play.{legal_moves};
 ghost use Rattle.rules.specs.Calls.{listed};
@@ -106,9 +106,9 @@ fn list_rules(rules: &[u32], cells: &[u32], answer: &mut [u8]) -> Option<usize>
 // The count is written last, when it is known.
 pub fn list_moves(rules: &[u32], cells: &[u32], answer: &mut [u8]) -> Option<usize>
     ensures size { result ≡ room 0 (answer_bytes (listed (legal_moves (game_at rules.now) cells.now))) answer.old }
-    ensures bytes { MatchOption result
-        (answer.new ≡ part_listed (legal_moves (game_at rules.now) cells.now) answer.old)
-        (λ _. answer.new ≡ written 0 (answer_bytes (listed (legal_moves (game_at rules.now) cells.now))) answer.old) }
+    ensures bytes { OnSome result (answer.new ≡
+        written 0 (answer_bytes (listed (legal_moves (game_at rules.now) cells.now))) answer.old) }
+    ensures part { IfNone result (answer.new ≡ part_listed (legal_moves (game_at rules.now) cells.now) answer.old) }
 {
     if answer.len() < HEAD {
         return None;

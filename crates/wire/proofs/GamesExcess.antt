@@ -9,7 +9,7 @@ use Rattle.wire.specs.declared.excesses.Excess.{Excess}
 use Rattle.wire.specs.declared.excesses.Excess.TheVariants.{FirstBound, SecondBound, Deep}
 use Rattle.wire.specs.Exprs.{got, unreadable}
 use Rattle.wire.specs.Games.{read_rule, read_rules, parse_game}
-use Rattle.wire.specs.GamesWalk.{word_at, RuleAt, GameIn, in_limits}
+use Rattle.wire.specs.GamesWalk.{word_at, RuleAt, BoundsAt, GameIn, RulesIn, in_limits}
 use Rattle.wire.specs.Excess.{count_excess, bound_excess, or_else, excess, excess_of}
 use Rattle.wire.proofs.ExprsBack.{with_got, not_got, same_got}
 use Rattle.wire.proofs.GamesRules.{no_first, past_first}
@@ -32,11 +32,11 @@ module _ (bs : List ℕ) (i n k : ℕ) (us : List Rule) (q : List ℕ) (reads : 
           let same = same_got (u ∷ vs) us r q h in
           (vs, e ∙ ap (got vs) same.1, same.0))
 
-      module _ (a : ℕ) (first : a ≡ word_at bs i) where
+      module _ (at : BoundsAt bs i w u) (a : ℕ) (first : a ≡ word_at bs i) where
         pub first_large : 256 < a → Some (FirstBound k a) ≡ bound_excess k us
         unfolding bound_excess
         first_large h =
-            let e : a ≡ u.first_bound = first ∙ one.first in
+            let e : a ≡ u.first_bound = first ∙ at.first in
             let large : bound_excess k (u ∷ others.0) ≡ Some (FirstBound k u.first_bound) = cond-true _ _ _ (lt-ltb 256 u.first_bound (omega (arith, e))) in
             ap (λ x. Some (FirstBound k x)) e ∙ sym large ∙ ap (bound_excess k) others.2
 
@@ -44,8 +44,8 @@ module _ (bs : List ℕ) (i n k : ℕ) (us : List Rule) (q : List ℕ) (reads : 
           past_first_bound : bound_excess k us ≡ cond (ltb 256 b) (Some (SecondBound k b)) (bound_excess (k + 1) others.0)
           unfolding bound_excess
           past_first_bound =
-              let e : a ≡ u.first_bound = first ∙ one.first in
-              let is : b ≡ u.second_bound = second ∙ one.second in
+              let e : a ≡ u.first_bound = first ∙ at.first in
+              let is : b ≡ u.second_bound = second ∙ at.second in
               ap (bound_excess k) (sym others.2) ∙ cond-false _ _ _ (le-ltb 256 u.first_bound (omega (arith, e)))
               ∙ ap (λ x. cond (ltb 256 x) (Some (SecondBound k x)) (bound_excess (k + 1) others.0)) (sym is)
 
@@ -80,8 +80,8 @@ module _ (bs : List ℕ) (f : Found) (g : Game) (all : all_below 256 bs ≡ true
     count_broken e h = ap (λ o. Some (or_else o (or_else (bound_excess 0 g.rules) Deep))) h ∙ sym by_counts
 
     pub bound_or_depth :
-        None ≡ counts → (r : Option Excess) → ((us : List Rule) (q : List ℕ) → read_rules f.rules (drop (4 + 2 * f.cells) bs) ≡ got us q → r ≡ bound_excess 0 us)
+        RulesIn bs f g → None ≡ counts → (r : Option Excess) → ((us : List Rule) (q : List ℕ) → read_rules f.rules (drop (4 + 2 * f.cells) bs) ≡ got us q → r ≡ bound_excess 0 us)
         → Some (or_else r Deep) ≡ excess_of (parse_game bs)
-    bound_or_depth h r bound =
-        ap (λ o. Some (or_else o Deep)) (bound g.rules found.rules_read.0 found.rules_read.1)
+    bound_or_depth inside h r bound =
+        ap (λ o. Some (or_else o Deep)) (bound g.rules inside.rules_read.0 inside.rules_read.1)
         ∙ ap (λ o. Some (or_else o (or_else (bound_excess 0 g.rules) Deep))) h ∙ sym by_counts

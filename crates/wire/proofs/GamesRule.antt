@@ -8,7 +8,7 @@ use Rattle.wire.specs.declared.games.Walk.{Walk}
 use Rattle.wire.specs.Numbers.{bytes_value}
 use Rattle.wire.specs.Exprs.{Parsed, got, unreadable, and_then, part, read_exprs}
 use Rattle.wire.specs.Games.{read_number, effects_of, read_rule, total_effects}
-use Rattle.wire.specs.GamesWalk.{exprs_parts, within_levels, Passed, word_at, Counted, RuleAt}
+use Rattle.wire.specs.GamesWalk.{exprs_parts, within_levels, Passed, word_at, Counted, RuleAt, BoundsAt}
 use Rattle.wire.proofs.ExprsBack.{sized}
 
 -- the two bytes at i
@@ -137,8 +137,10 @@ module _
     (effects : Passed bs (p + 1) (2 * get_or bs p 0) e fs) (effects-parts : x ≡ exprs_parts fs) (effects-few : x ≤ e - (p + 1))
     (fits : good ≡ ((leb first 256 && leb second 256) && (within_levels 33 es && within_levels 33 fs)))
   where
-    pub rule_found :
-        (u : Rule) × RuleAt bs i (record { end = e; effects = get_or bs p 0; moves = first * second; parts = 1 + g + get_or bs p 0 + x; good = good }) u
+    abbrev walked : Walk
+    walked = record { end = e; effects = get_or bs p 0; moves = first * second; parts = 1 + g + get_or bs p 0 + x; good = good }
+
+    pub rule_found : (u : Rule) × RuleAt bs i walked u × BoundsAt bs i walked u
     unfolding total_effects possible_moves rule_parts good_rules
     rule_found =
         let n : ℕ = get_or bs p 0 in
@@ -154,9 +156,6 @@ module _
           record {
             reads = rule_read bs i long p es guard some e fs effects.reads;
             inside = effects.inside;
-            first = refl;
-            second = refl;
-            bounds = omega (arith, guard.after, effects.after);
             counted = record {
               many = refl;
               effects = omega (arith, twos.0);
@@ -171,4 +170,5 @@ module _
               after = omega (arith, guard.after, effects.after);
             };
           },
+          record { first = refl; second = refl; bounds = omega (arith, guard.after, effects.after) },
         )

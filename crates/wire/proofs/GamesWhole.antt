@@ -9,7 +9,7 @@ use Rattle.wire.specs.declared.games.Found.{Found}
 use Rattle.wire.specs.Numbers.{bytes_value}
 use Rattle.wire.specs.Exprs.{Parsed, got, unreadable, and_then, part, read_exprs}
 use Rattle.wire.specs.Games.{read_number, read_cells, read_rules, read_game, whole, parse_game}
-use Rattle.wire.specs.GamesWalk.{exprs_parts, within_levels, Passed, word_at, Counted, RulesAt, GameIn}
+use Rattle.wire.specs.GamesWalk.{exprs_parts, within_levels, Passed, word_at, Counted, RulesAt, GameIn, RulesIn}
 use Rattle.wire.proofs.ExprsBack.{sized}
 use Rattle.wire.proofs.GamesRule.{and_true, number_at, number_short, byte_is}
 
@@ -138,7 +138,8 @@ module _ (bs : List ℕ) where
 
           pub game_found :
               (good shallow : Bool) → length bs ≤ e → shallow ≡ within_levels 33 es → good ≡ (w.good && shallow)
-              → (g : Game) × GameIn bs (record { players = get_or bs 0 0; cells = n; rules = get_or bs (3 + 2 * n) 0; effects = w.effects; moves = w.moves; parts = w.parts + x; good = good }) g
+              → let f : Found = record { players = get_or bs 0 0; cells = n; rules = get_or bs (3 + 2 * n) 0; effects = w.effects; moves = w.moves; parts = w.parts + x; good = good } in
+              (g : Game) × GameIn bs f g × RulesIn bs f g
           unfolding parse_game game_parts start
           game_found good shallow h fits is =
               let g : Game = game_of (get_or bs 0 0) start us es in
@@ -156,6 +157,8 @@ module _ (bs : List ℕ) where
                   parts = omega (arith, c.parts, two.0);
                   good = is ∙ (λ j. c.good j && (fits ∙ sym two.1) j);
                   few_effects = c.few_effects;
+                },
+                record {
                   rules_inside = omega arith;
                   rules_read = (drop w.end bs, ap (λ k. read_rules (get_or bs (3 + 2 * n) 0) (drop k bs)) (sym place) ∙ rules.reads);
                 },

@@ -60,10 +60,13 @@ pub record Counted (n i : ℕ) (w : Walk) (us : List Rule) : Type 0 where
 pub record RuleAt (bs : List ℕ) (i : ℕ) (w : Walk) (u : Rule) : Type 0 where
   pub reads : read_rule (drop i bs) ≡ got u (drop w.end bs)
   pub inside : w.end ≤ length bs
+  pub counted : Counted 1 i w (u ∷ [])
+
+-- the bounds of a rule at i stand in its first four bytes
+pub record BoundsAt (bs : List ℕ) (i : ℕ) (w : Walk) (u : Rule) : Type 0 where
   pub first : word_at bs i ≡ u.first_bound
   pub second : word_at bs (i + 2) ≡ u.second_bound
   pub bounds : i + 4 ≤ w.end
-  pub counted : Counted 1 i w (u ∷ [])
 
 pub record RulesAt (bs : List ℕ) (i n : ℕ) (w : Walk) (us : List Rule) : Type 0 where
   pub reads : read_rules n (drop i bs) ≡ got us (drop w.end bs)
@@ -81,6 +84,9 @@ pub record GameIn (bs : List ℕ) (f : Found) (g : Game) : Type 0 where
   pub parts : f.parts ≡ game_parts g
   pub good : f.good ≡ (good_rules g.rules && (fits_depth g.terminal 32 && fits_depth g.payoff 32))
   pub few_effects : f.effects ≤ 255 * f.rules
+
+-- the rules of that game stand behind its cells
+pub record RulesIn (bs : List ℕ) (f : Found) (g : Game) : Type 0 where
   pub rules_inside : 4 + 2 * f.cells ≤ length bs
   pub rules_read : (q : List ℕ) × (read_rules f.rules (drop (4 + 2 * f.cells) bs) ≡ got g.rules q)
 

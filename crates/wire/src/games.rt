@@ -2,7 +2,7 @@
 ghost use Rattle.std.specs.Prelude.{◌≡◌, ℕ, suc, ◌+◌, ◌-◌, ◌*◌, ◌<◌, ◌≤◌, ◌&&◌, List, length, drop, None, MatchOption, nat_le};
 ghost use Rattle.rules.specs.Rules.{Expr, Rule, Game};
 ghost use Rattle.wire.specs.Exprs.{got, unreadable, Kind, kind_after, read_exprs};
-ghost use Rattle.wire.specs.GamesWalk.{Begins, Passed, Shallow, exprs_parts, within_levels, word_at, RuleAt, RulesAt, GameIn, in_limits};
+ghost use Rattle.wire.specs.GamesWalk.{Begins, Passed, Shallow, exprs_parts, within_levels, word_at, RuleAt, BoundsAt, RulesAt, GameIn, RulesIn, in_limits};
 ghost use Rattle.wire.specs.Games.{read_rule, read_rules, parse_game, checked, GameReadsBack, GameWritesBack, GoodGamesFit};
 
 use rules::Refusal;
@@ -213,7 +213,7 @@ fn rule_fits(
 // The rule at `at`.
 pub(super) fn walk_rule(bytes: &[u8], at: usize) -> Option<Walk>
     requires { at ≤ length bytes.now }
-    ensures { MatchOption result (read_rule (drop at bytes.now) ≡ unreadable) (λ w. (u : Rule) × RuleAt bytes.now at w u) }
+    ensures { MatchOption result (read_rule (drop at bytes.now) ≡ unreadable) (λ w. (u : Rule) × RuleAt bytes.now at w u × BoundsAt bytes.now at w u) }
 {
     if bytes.len() - at < 4 {
         return None;
@@ -276,7 +276,7 @@ fn walk_rules(bytes: &[u8], at: usize, count: u8) -> Option<Walk>
 
 // All of the bytes.
 pub(super) fn walk_game(bytes: &[u8]) -> Option<Found>
-    ensures { MatchOption result (parse_game bytes.now ≡ None) (λ f. (g : Game) × GameIn bytes.now f g) }
+    ensures { MatchOption result (parse_game bytes.now ≡ None) (λ f. (g : Game) × GameIn bytes.now f g × RulesIn bytes.now f g) }
 {
     if bytes.len() < 3 {
         return None;

@@ -182,7 +182,23 @@ mod tests {
         more.push(4)?;
         more.push(4)?;
         assert_eq!(rt; verdict(more.as_slice()), 1);
-        assert_eq!(rt; first_excess(more.as_slice()), Some(Excess::Parts(16385)));
+        Ok(())
+    }
+
+    // The same game with one part more is told of by its parts.
+    #[test]
+    fn parts_in_excess(rt: HostRuntime) -> Result<(), Fail> {
+        let mut game = begun(rt.alloc(), 2, 1, 64)?;
+        for _ in 0..42u8 {
+            push_rule(&mut game, 1, 1, 85)?;
+        }
+        for _ in 0..22u8 {
+            push_rule(&mut game, 1, 1, 84)?;
+        }
+        game.push(1)?;
+        game.push(4)?;
+        game.push(4)?;
+        assert_eq!(rt; first_excess(game.as_slice()), Some(Excess::Parts(16385)));
         Ok(())
     }
 

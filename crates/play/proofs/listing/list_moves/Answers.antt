@@ -7,17 +7,20 @@ use Rattle.play.proofs.listing.list_moves.Goals as goal
 pub returns-then-answer-lt-HEAD : goal.returns-then-answer-lt-HEAD
 returns-then-answer-lt-HEAD c = record {
   size = refused c.args.answer.now (legal_moves (game_at c.args.rules.now) c.args.cells.now) (omega arith);
-  bytes = nothing_written c.args.answer.now (legal_moves (game_at c.args.rules.now) c.args.cells.now) (omega arith);
+  bytes = tt;
+  part = nothing_written c.args.answer.now (legal_moves (game_at c.args.rules.now) c.args.cells.now) (omega arith);
 }
 
 pub returns-in_default : goal.returns-in_default
 returns-in_default c = record {
   size = refused c.args.answer.now (legal_moves (game_at c.args.rules.now) c.args.cells.now) (omega (arith, c.in_default.ensures.too_many));
-  bytes = some_written c.args.answer.now (legal_moves (game_at c.args.rules.now) c.args.cells.now) c.in_default.ensures;
+  bytes = tt;
+  part = some_written c.args.answer.now (legal_moves (game_at c.args.rules.now) c.args.cells.now) c.in_default.ensures;
 }
 
 pub returns : goal.returns
 returns c = record {
   size = all_fits c.args.answer.now (legal_moves (game_at c.args.rules.now) c.args.cells.now) c.in-Some.ensures;
   bytes = all_written c.args.answer.now (legal_moves (game_at c.args.rules.now) c.args.cells.now) c.in-Some.ensures c.put_field.ensures;
+  part = tt;
 }

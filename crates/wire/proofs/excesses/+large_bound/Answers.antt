@@ -12,18 +12,18 @@ returns-in_default t c us q h =
 pub returns-then-first-gt-MOST_BOUND : goal.returns-then-first-gt-MOST_BOUND
 returns-then-first-gt-MOST_BOUND t c us q h =
     let one = c.in-Some.ensures in
-    first_large c.args.bytes.now c.args.at c.args.count c.args.rule us q h (omega arith) c.in-Some.one one.0 one.1
+    first_large c.args.bytes.now c.args.at c.args.count c.args.rule us q h (omega arith) c.in-Some.one one.0 one.1 one.2
     c.two_bytes-first.result c.two_bytes-first.ensures.0 (omega arith)
 
 pub returns-then-second-gt-MOST_BOUND : goal.returns-then-second-gt-MOST_BOUND
 returns-then-second-gt-MOST_BOUND t c us q h =
     let one = c.in-Some.ensures in
-    second_large c.args.bytes.now c.args.at c.args.count c.args.rule us q h (omega arith) c.in-Some.one one.0 one.1
+    second_large c.args.bytes.now c.args.at c.args.count c.args.rule us q h (omega arith) c.in-Some.one one.0 one.1 one.2
     c.two_bytes-first.result c.two_bytes-first.ensures.0 c.two_bytes-second.result (omega arith) c.two_bytes-second.ensures.0 (omega arith)
 
 pub returns : goal.returns
 returns t c us q h =
     let one = c.in-Some.ensures in
-    neither_large c.args.bytes.now c.args.at c.args.count c.args.rule us q h (omega arith) c.in-Some.one one.0 one.1
+    neither_large c.args.bytes.now c.args.at c.args.count c.args.rule us q h (omega arith) c.in-Some.one one.0 one.1 one.2
     c.two_bytes-first.result c.two_bytes-first.ensures.0 c.two_bytes-second.result (omega arith) c.two_bytes-second.ensures.0 (omega arith)
     c.large_bound.result c.large_bound.ensures

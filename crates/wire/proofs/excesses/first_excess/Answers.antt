@@ -26,11 +26,11 @@ returns-in-Some-large_bound c =
     let bs = c.args.game.now in
     let x = c.in-Some.ensures in
     bound_or_depth bs c.in-Some.found x.0 (below_from bs (λ i. (c.type_inv.game i).fits)) x.1 (sym c.keeps_limits.ensures ∙ c.if-keeps_limits.false)
-    c.in_default-outside_limits.ensures (Some c.in-Some-large_bound.excess) c.in-Some-large_bound.ensures
+    x.2 c.in_default-outside_limits.ensures (Some c.in-Some-large_bound.excess) c.in-Some-large_bound.ensures
 
 pub returns-in-None : goal.returns-in-None
 returns-in-None c =
     let bs = c.args.game.now in
     let x = c.in-Some.ensures in
     bound_or_depth bs c.in-Some.found x.0 (below_from bs (λ i. (c.type_inv.game i).fits)) x.1 (sym c.keeps_limits.ensures ∙ c.if-keeps_limits.false)
-    c.in_default-outside_limits.ensures None c.in-None.ensures
+    x.2 c.in_default-outside_limits.ensures None c.in-None.ensures
