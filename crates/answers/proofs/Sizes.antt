@@ -9,7 +9,7 @@ use Rattle.rules.specs.declared.Call.{Call}
 use Rattle.rules.specs.declared.Call.TheVariants.{Sit, Play, Ticks, See, May, Back, CanForce}
 use Rattle.rules.specs.Rules.{Position, Effect, Rule, Game, eval, turn, is_legal, apply_effects, apply}
 use Rattle.rules.specs.Play.{moves_by_second, moves_by_first, moves_by_rule, legal_moves, is_over, replay}
-use Rattle.rules.specs.Calls.{refused, number, shown, listed, Table, State, Stage, no_table, table_at, table_over, end_of, all_ticked, ticked, refusal, refusal_place, next, step, reply, answer, opened, run}
+use Rattle.rules.specs.Calls.{refused, shown, listed, Table, State, Stage, no_table, table_at, table_over, end_of, all_ticked, ticked, refusal, refusal_place, next, step, reply, answer, opened, run}
 use Rattle.rules.specs.Bounds.{good_game, possible_moves}
 use Rattle.answers.specs.Answers.{answer_fields, answer_bytes}
 use Rattle.answers.specs.Size.{table_sized, tables_sized, answer_room, AnswersFit, AllAnswersFit}

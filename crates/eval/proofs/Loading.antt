@@ -1,7 +1,7 @@
 -- Loading an expression: its parts one after the other, and then its row.
-use Rattle.std.proofs.Common.{◌≡◌, ℕ, zero, suc, ◌+◌, ◌-◌, ◌*◌, ◌<◌, ◌≤◌, min, Bool, true, false, cond, ltb, ◌⊎◌, List, [], ◌∷◌, ◌++◌, length, get_or, take, drop, set, sym, refl, ap, ◌∙◌, subst, inl, inr, ⊎_elim, arith}
+use Rattle.std.proofs.Common.{◌≡◌, ℕ, zero, suc, ◌+◌, ◌-◌, ◌*◌, ◌<◌, ◌≤◌, Bool, true, List, [], ◌∷◌, ◌++◌, length, get_or, drop, set, sym, refl, ap, ◌∙◌, subst, ⊎_elim, arith}
 use Rattle.std.proofs.lemmas.Bool.{cases_eq, cond-true, cond-false, lt-ltb, le-ltb}
-use Rattle.std.proofs.lemmas.List.{take_all, drop_all, drop_more, drop-drop, take_rest, length-drop, length-set, length_push, get_or_push, get_or_append_left, get_or-set_same, get_or-set_other}
+use Rattle.std.proofs.lemmas.List.{take_all, drop_all, drop_more, drop-drop, length-drop, length-set, get_or_push, get_or_append_left, get_or-set_same, get_or-set_other}
 use Rattle.rules.specs.Rules.{Expr, Num}
 use Rattle.rules.specs.Bounds.{fits_depth, expr_parts}
 use Rattle.wire.specs.Numbers.{bytes_value}
@@ -13,7 +13,7 @@ use Rattle.wire.proofs.ExprsBack.{then_got, not_got, same_got, sized, glue, read
 use Rattle.eval.specs.Memory.{node_of, node_at, expr_of, expr_within}
 use Rattle.eval.specs.declared.Loaded.{Loaded}
 use Rattle.eval.specs.declared.Loaded.TheVariants.{Read, Unreadable, TooDeep, Full}
-use Rattle.eval.specs.Load.{SameBetween, Stands, Outcome, Loads, fits_levels, LoadsWithin, Row, Written, Ended}
+use Rattle.eval.specs.Load.{SameBetween, Stands, Loads, fits_levels, LoadsWithin, Written, Ended}
 use Rattle.eval.proofs.Rows.{row_means, row_stays, parts_append, parts_one, parts_none, levels_push, levels_passed}
 
 same_one : (e f : Expr) (q r : List ℕ) → got (e ∷ []) q ≡ got (f ∷ []) r → e ≡ f

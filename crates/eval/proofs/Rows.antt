@@ -1,8 +1,8 @@
 -- What a row means, and what holds of the parts of an expression one after the other.
-use Rattle.std.proofs.Common.{◌≡◌, ℕ, zero, suc, ◌+◌, ◌<◌, ◌≤◌, Bool, true, false, ◌&&◌, List, [], ◌∷◌, ◌++◌, length, get_or, sym, refl, ap, ◌∙◌, arith}
+use Rattle.std.proofs.Common.{◌≡◌, ℕ, zero, suc, ◌+◌, ◌<◌, ◌≤◌, true, false, List, [], ◌∷◌, ◌++◌, get_or, refl, ap, ◌∙◌, arith}
 use Rattle.std.proofs.lemmas.Bool.{and_parts, and_from, and_left, and_right, false≢true}
 use Rattle.rules.specs.Rules.{Expr, Num, Cell, Add, Sub, Mul, Div, Rem, Lt, Eq, If}
-use Rattle.rules.specs.Bounds.{fits_depth, expr_parts}
+use Rattle.rules.specs.Bounds.{expr_parts}
 use Rattle.wire.specs.Exprs.{kind_after}
 use Rattle.wire.specs.GamesWalk.{exprs_parts, within_levels}
 use Rattle.eval.specs.Memory.{node_of, node_at, expr_of}

@@ -1,17 +1,16 @@
 -- What reading a text answers, by the machine.
-use Rattle.std.proofs.Common.{◌≡◌, ℕ, zero, suc, ◌+◌, ◌-◌, ◌*◌, ◌<◌, ◌≤◌, Bool, true, false, cond, not, ◌&&◌, eqb, ltb, ◌⊎◌, List, [], ◌∷◌, ◌++◌, length, get_or, take, drop, Some, None, Ok, Err, Option, sym, refl, ap, ◌∙◌, subst, inl, inr, arith}
+use Rattle.std.proofs.Common.{◌≡◌, ℕ, suc, ◌+◌, ◌<◌, ◌≤◌, Bool, true, false, cond, eqb, ltb, ◌⊎◌, List, [], ◌∷◌, ◌++◌, length, get_or, take, drop, Some, None, Ok, Option, sym, refl, ap, ◌∙◌, subst, inl, inr, arith}
 use Rattle.std.proofs.lemmas.List.{append-nil, append_assoc, take_all, drop_all, take-take, take-append-drop, drop_more, get_or-take, length-take-le}
-use Rattle.std.proofs.lemmas.Bool.{cases_Bool, cond-true, cond-false, lt-ltb, le-ltb}
+use Rattle.std.proofs.lemmas.Bool.{cases_Bool, lt-ltb, le-ltb}
 use Rattle.rules.specs.Rules.{Game}
-use Rattle.wire.specs.Games.{game_bytes, fits_bytes, parse_game}
+use Rattle.wire.specs.Games.{game_bytes, parse_game}
 use Rattle.wire.proofs.GamesRead.{game_reads_back}
-use Rattle.text.specs.Grammar.{Piece, digit, Written, ReadsAs, FrontOf}
+use Rattle.text.specs.Grammar.{digit, Written, FrontOf}
 use Rattle.game_text.specs.declared.progress.Stage.TheVariants.{End}
 use Rattle.game_text.specs.declared.progress.Progress.{Progress}
-use Rattle.game_text.specs.declared.progress.Fault.{Fault}
 use Rattle.game_text.specs.Text.{IsText, game_pieces, blanked}
 use Rattle.game_text.specs.Filling.{filled}
-use Rattle.game_text.specs.Machine.{State, Machine, Lexer, gap, comment, digits, letters, Outcome, and_then, ends, look, awaited, bound, settled, added, more_digits, more_letters, step, feed, is_end, went_on, fault_at, failed, at_end, reading, read, start, beginning, expecting, expected_at, expected_by, expected_at_end}
+use Rattle.game_text.specs.Machine.{State, Machine, Lexer, gap, comment, digits, letters, Outcome, and_then, ends, look, awaited, settled, added, more_digits, more_letters, step, feed, is_end, went_on, fault_at, failed, at_end, reading, read, start, beginning, expecting, expected_at, expected_by, expected_at_end}
 use Rattle.game_text.specs.Theorems.{Means, OneGameAText}
 use Rattle.game_text.proofs.Runs.{run}
 use Rattle.game_text.proofs.Pieces.{clash}
@@ -19,7 +18,7 @@ use Rattle.game_text.proofs.GameRuns.{between, game_run}
 use Rattle.game_text.proofs.GameTaken.{game_taken}
 use Rattle.game_text.proofs.Feeding.{machine, state, Fed, forward}
 use Rattle.game_text.proofs.FeedingBack.{then_some, same_some, backward, over_inv, on_inv, digits_inv}
-use Rattle.game_text.proofs.Completing.{Alive, Completed, completed}
+use Rattle.game_text.proofs.Completing.{Alive, completed}
 
 -- the machine at the end of a game
 abbrev the_end : Game → List ℕ → State

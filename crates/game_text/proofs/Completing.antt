@@ -1,22 +1,20 @@
 -- Wherever the machine stands, the text can go on to the end of a game.
-use Rattle.std.proofs.Common.{◌≡◌, ℕ, zero, suc, ◌+◌, ◌-◌, ◌*◌, ◌<◌, ◌≤◌, Bool, true, false, cond, not, ◌&&◌, eqb, ltb, ◌⊎◌, List, [], ◌∷◌, ◌++◌, length, set, Some, None, codes, Option, sym, refl, ap, ◌∙◌, subst, inl, inr, arith}
-use Rattle.std.proofs.lemmas.List.{append-nil, append_assoc}
-use Rattle.std.proofs.lemmas.Bool.{and_parts, and_from, not-true, cases_Bool, cond-true, cond-false}
-use Rattle.text.specs.Grammar.{Piece, word, number, digit, all, value_from, Spells, Written, end, piece}
+use Rattle.std.proofs.Common.{◌≡◌, ℕ, zero, suc, ◌+◌, Bool, true, false, cond, not, ltb, List, [], ◌∷◌, ◌++◌, Some, None, codes, sym, refl, ap, ◌∙◌, subst, arith}
+use Rattle.std.proofs.lemmas.Bool.{and_parts, not-true, cond-true}
+use Rattle.text.specs.Grammar.{Piece, word, number, all, value_from, Written, end, piece}
 use Rattle.game_text.specs.declared.progress.Part.{Part}
 use Rattle.game_text.specs.declared.progress.Part.TheVariants.{Guard, Effect, Terminal, Payoff}
 use Rattle.game_text.specs.declared.progress.Stage.{Stage}
 use Rattle.game_text.specs.declared.progress.Stage.TheVariants.{PlayersWord, PlayersNumber, CellsWord, Values, FirstBound, SecondBound, MayWord, Expr, Sets, GainWord, End}
 use Rattle.game_text.specs.declared.progress.Word.{Word}
-use Rattle.game_text.specs.declared.progress.Word.TheVariants.{Set as TheSet, Rule as TheRule, Over as TheOver}
+use Rattle.game_text.specs.declared.progress.Word.TheVariants.{Rule as TheRule, Over as TheOver}
 use Rattle.game_text.specs.declared.progress.Progress.{Progress}
 use Rattle.game_text.specs.Text.{blanked}
-use Rattle.game_text.specs.Machine.{State, Machine, Lexer, gap, comment, digits, letters, and_then, agrees, is_front, look, awaited, bound, ends, pending, part_ended, number_taken, word_taken, is_end, settled, added, more_digits, more_letters, step}
-use Rattle.game_text.proofs.Spelled.{plain, look_plain, look_whole}
+use Rattle.game_text.specs.Machine.{State, Machine, Lexer, gap, comment, digits, letters, and_then, agrees, is_front, look, awaited, bound, ends, pending, part_ended, number_taken, word_taken, is_end}
+use Rattle.game_text.proofs.Spelled.{look_plain, look_whole}
 use Rattle.game_text.proofs.Runs.{take_piece, run, run_none, run_one}
-use Rattle.game_text.proofs.Pieces.{blanked_other, blanked_ends}
-use Rattle.game_text.proofs.Feeding.{state, machine, Fed, Inside, Left, forward, fed_more, plain_all, plain_right}
-use Rattle.game_text.proofs.FeedingBack.{then_some, same_some, Bounded, step_of, over_inv, on_inv, digits_inv}
+use Rattle.game_text.proofs.Pieces.{blanked_other}
+use Rattle.game_text.proofs.Feeding.{state, machine, Fed, forward, fed_more, plain_all, plain_right}
 use Rattle.game_text.proofs.GameRuns.{look_over}
 use Rattle.game_text.proofs.ExprsTaken.{in_expr}
 use Rattle.game_text.proofs.GameTaken.{at_stage, over_state}

@@ -1,25 +1,24 @@
 -- Pieces that the machine takes as expressions are the pieces of expressions.
-use Rattle.std.proofs.Common.{◌≡◌, ℕ, zero, suc, ◌+◌, ◌-◌, ◌*◌, ◌<◌, ◌≤◌, Bool, true, false, cond, ◌&&◌, eqb, ltb, List, [], ◌∷◌, ◌++◌, length, get_or, take, drop, set, Some, None, Option, sym, refl, ap, ◌∙◌, subst, arith}
+use Rattle.std.proofs.Common.{◌≡◌, ℕ, zero, suc, ◌+◌, ◌-◌, ◌<◌, ◌≤◌, true, false, ◌&&◌, ltb, List, [], ◌∷◌, ◌++◌, length, get_or, take, drop, set, Some, None, sym, refl, ap, ◌∙◌, subst, arith}
 use Rattle.std.proofs.lemmas.List.{append_assoc, append-nil, length-take-le, length-drop, take-append-drop}
 use Rattle.std.proofs.lemmas.Bool.{and_parts, and_from, cond-true}
-use Rattle.rules.specs.Rules.{Expr, Num, Cell, First, Second, Me, Add, Sub, Mul, Div, Rem, Lt, Eq, If}
+use Rattle.rules.specs.Rules.{Expr, Num, First, Second, Me, Add, Sub, Mul, Div, Rem, Lt, Eq}
 use Rattle.wire.specs.Exprs.{expr_fits, Kind, kind_after, join}
 use Rattle.wire.proofs.Exprs.{exprs_fit}
 use Rattle.wire.proofs.ExprsKinds.{lawful}
 use Rattle.text.specs.Grammar.{Piece, word, number}
 use Rattle.game_text.specs.declared.progress.Part.{Part}
-use Rattle.game_text.specs.declared.progress.Stage.{Stage}
 use Rattle.game_text.specs.declared.progress.Stage.TheVariants.{Expr as AnExpr}
 use Rattle.game_text.specs.declared.progress.Word.{Word}
 use Rattle.game_text.specs.declared.progress.Word.TheVariants.{Kind as TheKind}
 use Rattle.game_text.specs.declared.progress.Progress.{Progress}
 use Rattle.game_text.specs.Text.{expr_pieces}
-use Rattle.game_text.specs.Machine.{State, and_then, expr_words, spelling, kind_words, look, agrees, awaited, bound, staged, pending, part_ended, part_begun, number_taken, word_taken, is_end}
+use Rattle.game_text.specs.Machine.{State, expr_words, spelling, kind_words, look, pending, part_ended, number_taken, word_taken, is_end}
 use Rattle.game_text.proofs.Spelled.{found_cases, look_same}
-use Rattle.game_text.proofs.Runs.{take_piece, run, run_none}
+use Rattle.game_text.proofs.Runs.{run, run_none}
 use Rattle.game_text.proofs.Pieces.{clash}
-use Rattle.game_text.proofs.Feeding.{state, Taken, first_taken, number_small, word_found}
-use Rattle.game_text.proofs.FeedingBack.{then_some, same_some, cond_some}
+use Rattle.game_text.proofs.Feeding.{state, first_taken, number_small}
+use Rattle.game_text.proofs.FeedingBack.{then_some, same_some}
 
 unfoldable pub exprs_pieces : List Expr → List Piece
 exprs_pieces [] = []

@@ -1,16 +1,15 @@
 -- The machine byte by byte does what it does piece by piece.
-use Rattle.std.proofs.Common.{◌≡◌, ℕ, zero, suc, ◌+◌, ◌-◌, ◌*◌, ◌<◌, ◌≤◌, Bool, true, false, cond, not, ◌&&◌, ◌||◌, eqb, ltb, leb, ◌⊎◌, List, [], ◌∷◌, ◌++◌, length, Some, None, Option, sym, refl, ap, ◌∙◌, subst, inl, inr, arith}
+use Rattle.std.proofs.Common.{◌≡◌, ℕ, ◌+◌, ◌-◌, ◌*◌, ◌<◌, ◌≤◌, Bool, true, false, cond, not, eqb, ltb, ◌⊎◌, List, [], ◌∷◌, ◌++◌, Some, None, Option, sym, refl, ap, ◌∙◌, subst, inl, inr, arith}
 use Rattle.std.proofs.lemmas.List.{append_assoc, append-nil}
-use Rattle.std.proofs.lemmas.Bool.{and_parts, and_from, not-true, cases_Bool, cond-true, cond-false, ltb-true, lt-ltb}
-use Rattle.std.proofs.lemmas.Bool.Decides.{nat_tests}
-use Rattle.text.specs.Grammar.{Piece, word, number, blank, digit, all, value_from, Spells, Written, end, piece}
+use Rattle.std.proofs.lemmas.Bool.{and_parts, not-true, cases_Bool, cond-true, cond-false, ltb-true, lt-ltb}
+use Rattle.text.specs.Grammar.{Piece, word, number, blank, digit, all, value_from, Spells, Written}
 use Rattle.game_text.specs.declared.progress.Word.{Word}
 use Rattle.game_text.specs.declared.progress.Progress.{Progress}
-use Rattle.game_text.specs.Text.{white, blanked}
+use Rattle.game_text.specs.Text.{blanked}
 use Rattle.game_text.specs.Machine.{State, Machine, Lexer, gap, comment, digits, letters, and_then, ends, bound, awaited, look, settled, more_digits, more_letters, added, number_taken, word_taken, step, feed}
 use Rattle.game_text.proofs.Spelled.{plain, look_plain, look_front}
 use Rattle.game_text.proofs.Runs.{take_piece, run}
-use Rattle.game_text.proofs.Pieces.{clash, blanked_ends, blanked_other, blanked_comment, ends_blank, digit_ends, Solid, digits_solid, BeginsSolid, one_more_blank, one_blank_less, Opened, opened, then_blank, none_then, none_written}
+use Rattle.game_text.proofs.Pieces.{clash, blanked_ends, blanked_other, blanked_comment, ends_blank, Solid, digits_solid, BeginsSolid, one_blank_less, Opened, opened, then_blank, none_then, none_written}
 
 abbrev pub state : Progress → List ℕ → State
 state p memory = record { at = p; memory = memory }

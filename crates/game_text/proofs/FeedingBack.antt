@@ -1,17 +1,17 @@
 -- What the machine takes byte by byte are pieces that it takes one by one.
-use Rattle.std.proofs.Common.{◌≡◌, ℕ, zero, suc, ◌+◌, ◌-◌, ◌*◌, ◌<◌, ◌≤◌, Bool, true, false, cond, not, ◌&&◌, ◌||◌, eqb, ltb, leb, ◌⊎◌, List, [], ◌∷◌, ◌++◌, length, Some, None, Option, sym, refl, ap, ◌∙◌, subst, inl, inr, arith}
+use Rattle.std.proofs.Common.{◌≡◌, ℕ, ◌+◌, ◌-◌, ◌*◌, ◌<◌, ◌≤◌, Bool, true, false, cond, not, eqb, ltb, List, [], ◌∷◌, ◌++◌, Some, None, Option, sym, refl, ap, ◌∙◌, subst, inl, inr, arith}
 use Rattle.std.proofs.lemmas.List.{append_assoc, append-nil}
-use Rattle.std.proofs.lemmas.Bool.{and_parts, and_from, cases_Bool, cond-true, cond-false, cond_both, ltb-true}
-use Rattle.text.specs.Grammar.{Piece, word, number, blank, digit, all, value_from, Spells, Written, end, piece}
+use Rattle.std.proofs.lemmas.Bool.{and_from, cases_Bool, cond-true, cond-false, cond_both, ltb-true}
+use Rattle.text.specs.Grammar.{Piece, word, number, digit, all, value_from, Written, end, piece}
 use Rattle.game_text.specs.declared.progress.Stage.{Stage}
 use Rattle.game_text.specs.declared.progress.Stage.TheVariants.{PlayersWord, PlayersNumber, CellsWord, Values, FirstBound, SecondBound, MayWord, Expr, Sets, GainWord, End}
 use Rattle.game_text.specs.declared.progress.Word.{Word}
 use Rattle.game_text.specs.declared.progress.Progress.{Progress}
-use Rattle.game_text.specs.Text.{white, blanked}
-use Rattle.game_text.specs.Machine.{State, Machine, Lexer, gap, comment, digits, letters, and_then, ends, bound, awaited, look, settled, more_digits, more_letters, added, number_taken, word_taken, step, feed}
+use Rattle.game_text.specs.Text.{blanked}
+use Rattle.game_text.specs.Machine.{State, Machine, Lexer, gap, comment, digits, letters, and_then, ends, bound, awaited, look, settled, more_digits, more_letters, added, step, feed}
 use Rattle.game_text.proofs.Runs.{take_piece, run, run_none, run_one}
-use Rattle.game_text.proofs.Pieces.{clash, blanked_ends, blanked_other, blanked_comment, one_more_blank}
-use Rattle.game_text.proofs.Feeding.{state, machine, Fed, Taken, first_taken, number_small, Rest, Inside, Left}
+use Rattle.game_text.proofs.Pieces.{blanked_ends, blanked_other, blanked_comment, one_more_blank}
+use Rattle.game_text.proofs.Feeding.{state, machine, Fed, first_taken, number_small, Rest, Inside, Left}
 
 -- a result that is there
 pub then_some : {X Y : Type 0} (o : Option X) (f : X → Option Y) (y : Y) → and_then o f ≡ Some y → (x : X) × (o ≡ Some x) × (f x ≡ Some y)

@@ -1,5 +1,5 @@
 -- Bytes in lent memory, one more or one changed.
-use Rattle.std.proofs.Common.{◌≡◌, ℕ, ◌+◌, List, [], ◌∷◌, ◌++◌, length, take, drop, set, sym, refl, ap, ◌∙◌}
+use Rattle.std.proofs.Common.{◌≡◌, ℕ, List, [], ◌∷◌, ◌++◌, length, set, sym, refl, ap, ◌∙◌}
 use Rattle.game_text.specs.Filling.{filled}
 
 filled_none : (bs : List ℕ) → filled bs [] ≡ []

@@ -1,8 +1,8 @@
 -- What the machine does with the pieces of a game: it writes the game's bytes.
-use Rattle.std.proofs.Common.{◌≡◌, ℕ, zero, suc, ◌+◌, ◌-◌, ◌*◌, ◌/◌, ◌%◌, ◌<◌, ◌≤◌, Bool, true, false, cond, ◌&&◌, eqb, ltb, List, [], ◌∷◌, ◌++◌, length, set, Some, None, codes, Option, sym, refl, ap, ◌∙◌, subst, arith}
+use Rattle.std.proofs.Common.{◌≡◌, ℕ, suc, ◌+◌, ◌*◌, ◌/◌, ◌%◌, ◌<◌, Bool, true, false, cond, ◌&&◌, eqb, ltb, List, [], ◌∷◌, ◌++◌, length, set, Some, None, codes, sym, refl, ap, ◌∙◌, arith}
 use Rattle.std.proofs.lemmas.List.{append_assoc, append-nil, length-append}
 use Rattle.std.proofs.lemmas.Bool.{and_parts, cond-true, cond-false, ltb-true, lt-ltb, ne_eqb}
-use Rattle.rules.specs.Rules.{Expr, Effect, Rule, Game}
+use Rattle.rules.specs.Rules.{Effect, Rule, Game}
 use Rattle.rules.specs.Bounds.{all_below}
 use Rattle.wire.specs.Numbers.{number_bytes}
 use Rattle.wire.specs.Exprs.{expr_bytes, expr_fits}
@@ -16,9 +16,9 @@ use Rattle.game_text.specs.declared.progress.Word.TheVariants.{Rule as TheRule, 
 use Rattle.game_text.specs.declared.progress.Progress.{Progress}
 use Rattle.game_text.specs.Text.{expr_pieces, number_pieces, effects_pieces, rules_pieces, game_pieces}
 use Rattle.game_text.specs.Filling.{filled}
-use Rattle.game_text.specs.Machine.{State, and_then, word_taken, awaited, look, agrees, is_front, put_two, beginning}
+use Rattle.game_text.specs.Machine.{State, and_then, word_taken, look, agrees, is_front, put_two, beginning}
 use Rattle.game_text.proofs.Filled.{filled_start, filled_more, filled_set}
-use Rattle.game_text.proofs.Runs.{take_piece, run, run_none, run_one, in_part, awaiting, closing, filled_two, expr_run}
+use Rattle.game_text.proofs.Runs.{run, run_none, run_one, in_part, awaiting, filled_two, expr_run}
 
 -- between expressions
 abbrev pub between : Stage → ℕ → ℕ → ℕ → List ℕ → ℕ → List ℕ → State

@@ -1,5 +1,5 @@
 -- Pieces that the machine takes to the end are the pieces of a game.
-use Rattle.std.proofs.Common.{◌≡◌, ℕ, zero, suc, ◌+◌, ◌-◌, ◌*◌, ◌<◌, ◌≤◌, Bool, true, false, cond, ◌&&◌, eqb, ltb, ◌⊎◌, List, [], ◌∷◌, ◌++◌, length, set, Some, None, codes, Option, sym, refl, ap, ◌∙◌, subst, inl, inr, arith}
+use Rattle.std.proofs.Common.{◌≡◌, ℕ, zero, suc, ◌+◌, ◌<◌, ◌≤◌, Bool, true, false, cond, ◌&&◌, eqb, ltb, ◌⊎◌, List, [], ◌∷◌, ◌++◌, length, set, Some, None, codes, sym, refl, ap, ◌∙◌, subst, inl, inr, arith}
 use Rattle.std.proofs.lemmas.List.{append_assoc, append-nil, length-append}
 use Rattle.std.proofs.lemmas.Bool.{and_parts, and_from, cond-true, cond_both, ltb-true, lt-ltb}
 use Rattle.rules.specs.Rules.{Expr, Effect, Rule, Game}
@@ -16,13 +16,12 @@ use Rattle.game_text.specs.declared.progress.Word.{Word}
 use Rattle.game_text.specs.declared.progress.Word.TheVariants.{Players, Cells, Rule as TheRule, May, Set as TheSet, Over as TheOver, Gain}
 use Rattle.game_text.specs.declared.progress.Progress.{Progress}
 use Rattle.game_text.specs.Text.{expr_pieces, number_pieces, effects_pieces, rules_pieces, game_pieces}
-use Rattle.game_text.specs.Machine.{State, and_then, spelling, look, agrees, awaited, bound, number_taken, word_taken, part_ended, is_end, beginning}
+use Rattle.game_text.specs.Machine.{State, spelling, look, awaited, bound, number_taken, word_taken, part_ended, is_end, beginning}
 use Rattle.game_text.proofs.Spelled.{found_cases, look_same}
-use Rattle.game_text.proofs.Runs.{take_piece, run, run_none}
-use Rattle.game_text.proofs.Pieces.{clash}
-use Rattle.game_text.proofs.Feeding.{state, Taken, first_taken, number_small}
+use Rattle.game_text.proofs.Runs.{run}
+use Rattle.game_text.proofs.Feeding.{state, first_taken, number_small}
 use Rattle.game_text.proofs.FeedingBack.{then_some, same_some}
-use Rattle.game_text.proofs.ExprsTaken.{exprs_pieces, ExprsThen, not_ended, in_expr, exprs_taken}
+use Rattle.game_text.proofs.ExprsTaken.{exprs_pieces, not_ended, in_expr, exprs_taken}
 
 abbrev pub at_stage : Stage → Part → ℕ → ℕ → ℕ → ℕ → ℕ → ℕ → Progress
 at_stage st t m c r k l a = record { stage = st; part = t; more = m; cells = c; rules = r; sets = k; len = l; sets_at = a }

@@ -1,6 +1,6 @@
 -- How much a piece adds at most.
-use Rattle.std.proofs.Common.{◌≡◌, ℕ, zero, suc, ◌+◌, ◌-◌, ◌*◌, ◌<◌, ◌≤◌, Bool, true, false, cond, eqb, ltb, List, [], ◌∷◌, ◌++◌, set, Some, None, Option, sym, refl, ap, ◌∙◌, subst, arith}
-use Rattle.std.proofs.lemmas.Bool.{cond_both, ltb-true}
+use Rattle.std.proofs.Common.{◌≡◌, ℕ, zero, suc, ◌+◌, ◌-◌, ◌<◌, ◌≤◌, eqb, List, set, sym, ap, subst, arith}
+use Rattle.std.proofs.lemmas.Bool.{cond_both}
 use Rattle.std.proofs.lemmas.Bool.Decides.{nat_tests}
 use Rattle.wire.specs.Exprs.{kind_after}
 use Rattle.wire.proofs.ExprsKinds.{arity_table}
@@ -11,7 +11,7 @@ use Rattle.game_text.specs.declared.progress.Stage.TheVariants.{PlayersWord, Pla
 use Rattle.game_text.specs.declared.progress.Word.{Word}
 use Rattle.game_text.specs.declared.progress.Word.TheVariants.{Players, Cells, Rule, May, Set, Over, Gain, Kind}
 use Rattle.game_text.specs.declared.progress.Progress.{Progress}
-use Rattle.game_text.specs.Machine.{State, staged, put_two, part_ended, pending, number_taken, word_taken, bound, awaited, look, agrees, spelling, kind_words}
+use Rattle.game_text.specs.Machine.{State, staged, put_two, part_ended, pending, number_taken, word_taken, bound}
 use Rattle.game_text.specs.Room.{Fine, slack, Room, Grew}
 
 -- a part ends with one byte at most

@@ -1,9 +1,8 @@
 -- The loop over a text's bytes: what is left to read gives the outcome.
-use Rattle.std.proofs.Common.{◌≡◌, ℕ, ◌+◌, ◌<◌, ◌≤◌, true, false, List, length, get_or, drop, Some, None, Ok, Option, sym, refl, ap, ◌∙◌, subst}
+use Rattle.std.proofs.Common.{◌≡◌, ℕ, ◌+◌, ◌<◌, ◌≤◌, true, false, List, length, get_or, drop, Some, None, Ok, ap, ◌∙◌}
 use Rattle.std.proofs.lemmas.List.{drop_more, drop_all}
 use Rattle.std.proofs.lemmas.Bool.{cond-true, cond-false}
-use Rattle.game_text.specs.declared.progress.Progress.{Progress}
-use Rattle.game_text.specs.Machine.{State, Machine, Outcome, step, settled, went_on, at_end, is_end, failed, fault_at, reading}
+use Rattle.game_text.specs.Machine.{State, Machine, step, settled, went_on, at_end, is_end, failed, reading}
 
 -- a byte that fits
 pub went_step :

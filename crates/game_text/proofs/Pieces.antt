@@ -1,9 +1,8 @@
 -- Pieces written in a text, from byte to byte.
-use Rattle.std.proofs.Common.{◌≡◌, ℕ, zero, suc, ◌+◌, ◌-◌, ◌*◌, ◌<◌, ◌≤◌, Bool, true, false, cond, not, ◌&&◌, ◌||◌, eqb, ltb, leb, List, [], ◌∷◌, ◌++◌, length, sym, refl, ap, ◌∙◌, subst, arith}
-use Rattle.std.proofs.lemmas.List.{append_assoc, append-nil}
-use Rattle.std.proofs.lemmas.Bool.{and_parts, and_from, both_ways, not-true, cases_Bool, cond-true, cond-false, or_parts}
+use Rattle.std.proofs.Common.{◌≡◌, ℕ, ◌≤◌, Bool, true, false, cond, not, ◌||◌, eqb, List, [], ◌∷◌, ◌++◌, sym, refl, ap, ◌∙◌, subst, arith}
+use Rattle.std.proofs.lemmas.Bool.{and_parts, and_from, both_ways, not-true, or_parts}
 use Rattle.std.proofs.lemmas.Bool.Decides.{nat_tests}
-use Rattle.text.specs.Grammar.{Piece, word, number, blank, digit, all, value_from, Spells, Written, end, piece}
+use Rattle.text.specs.Grammar.{Piece, word, number, blank, digit, all, Spells, Written, end, piece}
 use Rattle.game_text.specs.Text.{white, blanked}
 use Rattle.game_text.specs.Machine.{ends}
 use Rattle.game_text.proofs.Spelled.{plain}

@@ -1,5 +1,5 @@
 -- The machine from piece to piece, and what it does with an expression's pieces.
-use Rattle.std.proofs.Common.{◌≡◌, ℕ, zero, suc, ◌+◌, ◌-◌, ◌*◌, ◌/◌, ◌%◌, ◌<◌, ◌≤◌, Bool, true, false, cond, ◌&&◌, eqb, ltb, List, [], ◌∷◌, ◌++◌, length, set, Some, None, codes, Option, sym, refl, ap, ◌∙◌, subst, arith}
+use Rattle.std.proofs.Common.{◌≡◌, ℕ, zero, suc, ◌+◌, ◌-◌, ◌/◌, ◌%◌, ◌<◌, true, cond, ◌&&◌, ltb, List, [], ◌∷◌, ◌++◌, length, set, Some, None, codes, Option, sym, refl, ap, ◌∙◌, arith}
 use Rattle.std.proofs.lemmas.List.{append_assoc, length-append}
 use Rattle.std.proofs.lemmas.Bool.{and_parts, cond-true, ltb-true}
 use Rattle.rules.specs.Rules.{Expr, Num, Cell, First, Second, Me, Add, Sub, Mul, Div, Rem, Lt, Eq, If}
@@ -8,9 +8,7 @@ use Rattle.wire.specs.Exprs.{expr_bytes, expr_fits, kind_after}
 use Rattle.text.specs.Grammar.{Piece, word, number}
 use Rattle.game_text.specs.declared.progress.Part.{Part}
 use Rattle.game_text.specs.declared.progress.Part.TheVariants.{Guard, Effect, Terminal, Payoff}
-use Rattle.game_text.specs.declared.progress.Stage.{Stage}
 use Rattle.game_text.specs.declared.progress.Stage.TheVariants.{Expr as AnExpr}
-use Rattle.game_text.specs.declared.progress.Word.{Word}
 use Rattle.game_text.specs.declared.progress.Word.TheVariants.{Kind}
 use Rattle.game_text.specs.declared.progress.Progress.{Progress}
 use Rattle.game_text.specs.Text.{expr_pieces}

@@ -5,14 +5,14 @@ use Rattle.std.proofs.lemmas.Bool.{cond_both, cond-true, cond-false, ltb-true}
 use Rattle.game_text.specs.declared.progress.Stage.{Stage}
 use Rattle.game_text.specs.declared.progress.Stage.TheVariants.{PlayersWord, PlayersNumber, CellsWord, Values, FirstBound, SecondBound, MayWord, Expr, Sets, GainWord, End}
 use Rattle.game_text.specs.declared.progress.Word.{Word}
-use Rattle.game_text.specs.declared.progress.Word.TheVariants.{Players, Cells, Rule, May, Set, Over, Gain, Kind}
+use Rattle.game_text.specs.declared.progress.Word.TheVariants.{Rule, Set, Over}
 use Rattle.game_text.specs.declared.progress.Progress.{Progress}
 use Rattle.game_text.specs.declared.progress.Token.{Token}
-use Rattle.game_text.specs.declared.progress.Token.TheVariants.{Gap, Comment, Digits, Letters}
+use Rattle.game_text.specs.declared.progress.Token.TheVariants.{Gap, Digits, Letters}
 use Rattle.text.specs.Grammar.{digit}
 use Rattle.game_text.specs.Machine.{State, letters, more_letters, more_digits, added, settled, number_taken, word_taken, awaited, look, agrees, spelling, and_then}
-use Rattle.game_text.specs.Room.{Fine, Room, Roomy, Sane, lexer_of, SameLexer}
-use Rattle.game_text.proofs.Growing.{number_grew, word_grew, room_after, room_more}
+use Rattle.game_text.specs.Room.{Fine, Room, Sane, lexer_of, SameLexer}
+use Rattle.game_text.proofs.Growing.{number_grew, word_grew, room_after}
 
 abbrev AllFine : List Word → Progress → Type 0
 AllFine [] p = Unit {0}

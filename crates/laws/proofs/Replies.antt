@@ -8,7 +8,6 @@ use Rattle.rules.specs.declared.Call.{Call}
 use Rattle.rules.specs.declared.Call.TheVariants.{Sit, Play, Ticks, See, May, Back, CanForce}
 use Rattle.rules.specs.Rules.{Position, Game, turn, apply}
 use Rattle.rules.specs.Play.{is_over, replay}
-use Rattle.rules.specs.Force.{can_force}
 use Rattle.rules.specs.Calls.{number, shown, listed, Table, State, Stage, call_number, first_calls, clock_calls, no_table, table_at, table_over, total_played, refusal_of, refusal, ticked, all_ticked, next, step, end_of, reply, answer, answers, run}
 use Rattle.laws.specs.Replies.{Stands, goes_on, over, by_time, OverByEither, EachCallAnswered, Moved, PlayMakesItsMove, AskingChangesNothing, MovesCounted, OneCallAfterTheOther, is_first, is_clocked, StagesGrow}
 use Rattle.laws.proofs.Clocks.{after_step, step_taken}

@@ -9,7 +9,7 @@ use Rattle.wire.specs.Exprs.{expr_bytes, expr_fits}
 use Rattle.wire.specs.Games.{cells_bytes, effects_bytes, rule_bytes, rules_bytes, game_bytes, effects_fit, rule_fits, rules_fit, fits_bytes}
 use Rattle.wire.specs.Numbers.{number_bytes}
 use Rattle.wire.proofs.Numbers.{length_bytes}
-use Rattle.text.specs.Grammar.{Piece, word, number}
+use Rattle.text.specs.Grammar.{Piece, number}
 use Rattle.game_text.specs.Text.{expr_pieces, number_pieces}
 use Rattle.printing.specs.Games.{spaced, line, printed_effects, printed_rules, printed, PrintedFits}
 use Rattle.printing.proofs.Heads.{spaced_append, head_some}

@@ -1,5 +1,5 @@
 -- What is printed of a game is its text.
-use Rattle.std.proofs.Common.{◌≡◌, ℕ, ◌+◌, ◌/◌, ◌%◌, ◌^◌, ◌<◌, true, false, not, ◌&&◌, ltb, List, [], ◌∷◌, ◌++◌, length, codes, decimal, sym, refl, ap, ◌∙◌, subst, append_assoc, append-nil, arith, rules}
+use Rattle.std.proofs.Common.{◌≡◌, ℕ, ◌+◌, ◌%◌, ◌^◌, ◌<◌, true, false, ◌&&◌, ltb, List, [], ◌∷◌, ◌++◌, length, codes, decimal, sym, refl, ap, ◌∙◌, subst, append_assoc, append-nil, arith, rules}
 use Rattle.std.proofs.lemmas.Fmt.{decimal_nonempty, decimal_by_steps, digits_decimal, digits_value-decimal}
 use Rattle.std.proofs.lemmas.Str.Parse.{IsNumeralModel, numerals_by_fold}
 use Rattle.std.proofs.lemmas.Bool.{and_parts, ltb-true, ne_eqb}
@@ -8,7 +8,7 @@ use Rattle.rules.specs.Bounds.{all_below}
 use Rattle.wire.specs.Exprs.{expr_fits}
 use Rattle.wire.specs.Games.{effects_fit, rule_fits, rules_fit, fits_bytes}
 use Rattle.text.specs.Grammar.{Piece, word, number, blank, digit, all, value_from, Spells, Written, end, piece, printed_piece}
-use Rattle.game_text.specs.Text.{white, blanked, expr_pieces, number_pieces, effects_pieces, rules_pieces, game_pieces}
+use Rattle.game_text.specs.Text.{blanked, expr_pieces, number_pieces, effects_pieces, rules_pieces, game_pieces}
 use Rattle.printing.specs.Games.{spaced, line, printed_effects, printed_rules, printed, PrintedIsText}
 
 -- what is printed of a number is its digits

@@ -4,11 +4,9 @@ use Rattle.std.proofs.lemmas.Bool.{true≢false}
 use Rattle.rules.specs.declared.Refusal.{Refusal}
 use Rattle.rules.specs.Rules.{Game}
 use Rattle.rules.specs.Bounds.{all_below, good_game}
-use Rattle.wire.specs.Games.{game_bytes, fits_bytes, parse_game, size_of, checked_game, checked}
+use Rattle.wire.specs.Games.{game_bytes, parse_game, size_of, checked_game, checked}
 use Rattle.wire.proofs.GamesBack.{game_writes_back}
 use Rattle.game_text.specs.Filling.{filled}
-use Rattle.game_text.specs.declared.progress.Fault.{Fault}
-use Rattle.game_text.specs.Theorems.{Means}
 use Rattle.game_text.proofs.Answering.{one_game}
 use Rattle.printing.specs.Games.{printed, printed_size, printed_into, ExactSize, PrintedReadsBack}
 use Rattle.printing.specs.Puts.{Puts}

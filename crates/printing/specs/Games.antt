@@ -1,6 +1,6 @@
 -- How a game is printed: a line for the players, the cells, each rule, its guard and each of its effects, the end and the gain.
 -- Assumes nothing: these are definitions.
-use Rattle.std.specs.Prelude.{◌≡◌, ℕ, ◌*◌, ◌<◌, ◌≤◌, min, true, List, [], ◌∷◌, ◌++◌, length, Some, None, Ok, Err, codes, Option, Result}
+use Rattle.std.specs.Prelude.{◌≡◌, ℕ, ◌*◌, ◌<◌, ◌≤◌, min, true, List, [], ◌∷◌, ◌++◌, length, Some, None, Ok, codes, Option, Result}
 use Rattle.rules.specs.Rules.{Effect, Rule, Game}
 use Rattle.wire.specs.Games.{game_bytes, fits_bytes, parse_game}
 use Rattle.text.specs.Grammar.{Piece, number, printed_piece}

@@ -11,7 +11,7 @@ use Rattle.rules.specs.declared.Call.TheVariants.{Sit, Play, Ticks, See, May, Ba
 use Rattle.rules.specs.Rules.{Position, Rule, Game, no_rule, rule_at, is_legal, apply}
 use Rattle.rules.specs.Play.{legal_moves, is_over, replay}
 use Rattle.rules.specs.Force.{can_force, layer_total}
-use Rattle.rules.specs.Calls.{refused, number, shown, listed, Table, State, Stage, no_table, table_at, table_over, total_played, end_of, refusal, refusal_place, reply, answer}
+use Rattle.rules.specs.Calls.{refused, shown, listed, Table, State, Stage, no_table, table_at, table_over, total_played, end_of, refusal, refusal_place, reply, answer}
 use Rattle.rules.specs.Bounds.{good_game, good_rules, all_below}
 use Rattle.wire.proofs.FieldLists.{below_take, below_drop, below_append}
 use Rattle.answers.specs.Answers.{moves_fields, answer_fields, fits_answer}

@@ -1,5 +1,5 @@
 -- The words of effects, rules and a whole game: what they mean, how many they are, and that they fit.
-use Rattle.std.proofs.Common.{◌≡◌, ℕ, suc, ◌+◌, ◌-◌, ◌*◌, ◌<◌, ◌≤◌, true, ◌&&◌, ltb, leb, List, [], ◌∷◌, ◌++◌, length, get_or, refl, ap, ◌∙◌, subst, arith}
+use Rattle.std.proofs.Common.{◌≡◌, ℕ, suc, ◌+◌, ◌*◌, ◌<◌, ◌≤◌, true, ◌&&◌, ltb, leb, List, [], ◌∷◌, ◌++◌, length, get_or, refl, ap, ◌∙◌, subst, arith}
 use Rattle.std.proofs.lemmas.Bool.{and_parts, and_from, ltb-true, lt-ltb, leb-true}
 use Rattle.std.proofs.lemmas.List.{length-append}
 use Rattle.rules.specs.Rules.{Effect, Rule, Game}
@@ -9,7 +9,7 @@ use Rattle.wire.proofs.FieldLists.{below_append}
 use Rattle.eval.specs.Memory.{expr_at}
 use Rattle.rows.specs.Layout.{words_at, effect_at, effects_at, rule_at_word, rules_at, game_at, words_needed}
 use Rattle.rows.specs.Load.{effects_words, rule_words, rules_words}
-use Rattle.rows.specs.Encoding.{after, root, row, expr_rows, effects_table, effects_rows, guard_place, effects_place, rule_body, rule_row, rules_table, rules_bodies, bodies_place, terminal_place, payoff_place, encoded_header, encoded, EveryGameHasMemory}
+use Rattle.rows.specs.Encoding.{after, root, expr_rows, effects_table, effects_rows, guard_place, effects_place, rule_body, rule_row, rules_table, rules_bodies, bodies_place, terminal_place, payoff_place, encoded_header, encoded, EveryGameHasMemory}
 use Rattle.rows.proofs.LoadSize.{game_takes, words_are_enough, few_game_parts}
 use Rattle.rows.proofs.EncodingExprs.{Has, has_front, has_back, rows_long, expr_there, rows_fit, fit_words, no_words_fit}
 

@@ -1,5 +1,5 @@
 -- How many words games take.
-use Rattle.std.proofs.Common.{◌≡◌, ◌+◌, ◌-◌, ◌*◌, ◌≤◌, true, ◌&&◌, leb, List, [], ◌∷◌, length, refl, arith}
+use Rattle.std.proofs.Common.{◌≡◌, ◌+◌, ◌*◌, ◌≤◌, true, ◌&&◌, leb, List, [], ◌∷◌, length, refl, arith}
 use Rattle.std.proofs.lemmas.Bool.{and_parts, leb-true}
 use Rattle.rules.specs.Rules.{Effect, Rule, Game}
 use Rattle.rules.specs.Bounds.{expr_parts, effect_parts, rule_parts, game_parts, all_below, possible_moves, good_rules, good_game}

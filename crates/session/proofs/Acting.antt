@@ -1,6 +1,6 @@
 -- Each call does what the meaning says, and its answer is written.
-use Rattle.std.proofs.Common.{◌≡◌, ℕ, ◌+◌, ◌*◌, ◌<◌, ◌≤◌, Bool, true, false, cond, not, ◌||◌, eqb, ltb, List, [], ◌∷◌, length, get_or, take, drop, Ok, Err, Option, Result, sym, refl, ap, ◌∙◌, subst, arith, MatchOption}
-use Rattle.std.proofs.lemmas.Bool.{cond-true, cond-false, cond_both, lt-ltb, le-ltb, le-leb, eq-eqb, ne_eqb}
+use Rattle.std.proofs.Common.{◌≡◌, ℕ, ◌+◌, ◌<◌, ◌≤◌, Bool, true, false, cond, ◌||◌, eqb, List, [], length, get_or, take, drop, Ok, Err, Option, Result, sym, refl, ap, ◌∙◌, subst, arith, MatchOption}
+use Rattle.std.proofs.lemmas.Bool.{cond-true, cond-false, cond_both, lt-ltb, le-ltb, le-leb}
 use Rattle.std.proofs.lemmas.Option.{MatchOption-at_some}
 use Rattle.rules.specs.declared.Limits.{Limits}
 use Rattle.rules.specs.declared.Refusal.{Refusal}
@@ -18,7 +18,7 @@ use Rattle.tables.specs.declared.acting.Seat.{Seat}
 use Rattle.tables.specs.Means.{Means}
 use Rattle.tables.specs.Acting.{Outcome, told, refused_by, RightOutcome, sat, played, IsSeat, RightSeat, seat_of}
 use Rattle.session.specs.Calling.{stage}
-use Rattle.session.specs.Inner.{Writes, Changes, Acts}
+use Rattle.session.specs.Inner.{Writes, Acts}
 use Rattle.tables.proofs.Theorems.{sitting_is_right, playing_is_right, seats_are_right}
 
 -- an answer that was written whole

@@ -1,12 +1,11 @@
 -- An opening is refused just where it says so, and else memory is a server's.
-use Rattle.std.proofs.Common.{◌≡◌, ℕ, ◌+◌, ◌*◌, ◌<◌, ◌≤◌, Bool, true, false, cond, ◌&&◌, leb, List, length, get_or, Some, None, Ok, Err, Option, Result, sym, refl, ap, ◌∙◌, subst, arith}
-use borrow.Rule.Slice.PartMut.{put_mid}
-use Rattle.std.proofs.lemmas.Bool.{and_parts, and_from, and_left, and_right, leb-true, le-leb, lt-leb, cond-true, cond-false}
+use Rattle.std.proofs.Common.{◌≡◌, ℕ, ◌≤◌, Bool, true, false, ◌&&◌, leb, List, length, get_or, Some, None, Ok, Err, Option, Result, sym, refl, ap, ◌∙◌, subst, arith}
+use Rattle.std.proofs.lemmas.Bool.{and_from, le-leb, cond-true, cond-false}
 use Rattle.rules.specs.declared.Limits.{Limits}
 use Rattle.rules.specs.declared.Refusal.{Refusal}
 use Rattle.rules.specs.Rules.{Game}
 use Rattle.rules.specs.Calls.{opened}
-use Rattle.rules.specs.Bounds.{good_game, good_limits}
+use Rattle.rules.specs.Bounds.{good_limits}
 use Rattle.wire.specs.declared.games.GameSize.{GameSize}
 use Rattle.wire.specs.Games.{parse_game, checked, checked_game, size_of}
 use Rattle.rows.specs.Layout.{words_needed}
@@ -16,9 +15,9 @@ use Rattle.tables.specs.Layout.{sizes_of, good_size}
 use Rattle.tables.specs.Changes.{header, opened_in}
 use Rattle.tables.specs.Means.{Means}
 use Rattle.tables.specs.Acting.{opening}
-use Rattle.tables.proofs.Regions.{mid_above, mid_length}
+use Rattle.tables.proofs.Regions.{mid_above}
 use Rattle.tables.proofs.Theorems.{opening_is_right}
-use Rattle.session.specs.Opening.{Lent, lent, by_size, needed, long_enough, by_length, opening_answer, PastKept, SameLengths, Opens}
+use Rattle.session.specs.Opening.{Lent, lent, needed, long_enough, by_length, opening_answer, SameLengths, Opens}
 use Rattle.session.proofs.Starting.{never, sizes_chosen, checked_good, game_chosen, long_parts}
 
 same_lengths : (m : Lent) → SameLengths m m

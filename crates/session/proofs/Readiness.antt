@@ -1,17 +1,17 @@
 -- Memory that means a server has the header of one; and its tables have the sizes of its game.
-use Rattle.std.proofs.Common.{◌≡◌, ℕ, zero, suc, ◌+◌, ◌*◌, ◌<◌, ◌≤◌, Bool, true, false, cond, ◌&&◌, eqb, leb, List, [], ◌∷◌, ◌++◌, length, get_or, take, drop, Some, None, sym, refl, ap, ◌∙◌, subst, add-mul, arith}
+use Rattle.std.proofs.Common.{◌≡◌, ℕ, suc, ◌+◌, ◌<◌, ◌≤◌, true, false, ◌&&◌, eqb, leb, List, [], ◌∷◌, length, get_or, drop, Some, None, sym, refl, ap, ◌∙◌, add-mul, arith}
 use Rattle.std.proofs.lemmas.Bool.{and_parts, and_from, and_left, and_right, leb-true, le-leb, lt-leb, eq-eqb, cond-true}
 use Rattle.std.proofs.lemmas.Nat.{mul-le}
 use Rattle.std.proofs.lemmas.List.{length-take-le, length-drop}
 use Rattle.rules.specs.declared.Limits.{Limits}
 use Rattle.rules.specs.Rules.{Game}
-use Rattle.rules.specs.Calls.{Table, State, no_table, table_at, total_played}
+use Rattle.rules.specs.Calls.{Table, State, no_table, table_at}
 use Rattle.rules.specs.Bounds.{good_game, good_limits}
 use Rattle.wire.specs.Games.{size_of}
 use Rattle.answers.specs.Size.{table_sized, tables_sized}
 use Rattle.tables.specs.declared.plan.Plan.{Plan}
-use Rattle.tables.specs.Layout.{mark, header_words, record_words, record_place, state_words, sizes_of, plan_in, good_plan, plan_of}
-use Rattle.tables.specs.Means.{Means, Stored}
+use Rattle.tables.specs.Layout.{mark, header_words, record_words, record_place, state_words, sizes_of, plan_in, plan_of}
+use Rattle.tables.specs.Means.{Means}
 use Rattle.session.specs.Opening.{Lent, lent}
 use Rattle.session.specs.Calling.{ready, ready_by}
 

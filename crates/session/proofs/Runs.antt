@@ -1,5 +1,5 @@
 -- Every run answers as the written rules.
-use Rattle.std.proofs.Common.{◌≡◌, ℕ, ◌+◌, ◌*◌, ◌<◌, ◌≤◌, Bool, true, false, cond, eqb, List, [], ◌∷◌, ◌++◌, length, take, drop, Ok, Err, Result, sym, refl, ap, ◌∙◌, subst, arith}
+use Rattle.std.proofs.Common.{◌≡◌, ℕ, ◌≤◌, true, eqb, List, ◌∷◌, ◌++◌, length, take, drop, Ok, Err, Result, sym, refl, ap, ◌∙◌, subst, arith}
 use Rattle.std.proofs.lemmas.Bool.{cond_both}
 use Rattle.std.proofs.lemmas.List.{take_at}
 use Rattle.rules.specs.declared.Limits.{Limits}
@@ -7,9 +7,8 @@ use Rattle.rules.specs.declared.Call.{Call}
 use Rattle.rules.specs.declared.Call.TheVariants.{Sit, Play, Ticks, See, May, Back, CanForce}
 use Rattle.rules.specs.Rules.{Game}
 use Rattle.rules.specs.Calls.{State, refusal, next, step, opened}
-use Rattle.rules.specs.Bounds.{good_game, possible_moves}
+use Rattle.rules.specs.Bounds.{good_game}
 use Rattle.wire.specs.Calls.{parse_call}
-use Rattle.wire.specs.Fields.{written}
 use Rattle.wire.specs.Games.{size_of}
 use Rattle.wire.proofs.Writing.{written_front}
 use Rattle.answers.specs.Answers.{answer_fields, answer_bytes}
@@ -19,8 +18,8 @@ use Rattle.answers.proofs.Sizes.{answers_fit}
 use Rattle.tables.specs.declared.plan.Sizes.{Sizes}
 use Rattle.tables.specs.Layout.{sizes_of}
 use Rattle.tables.specs.Means.{Means}
-use Rattle.session.specs.Opening.{Lent, lent, Opens}
-use Rattle.session.specs.Calling.{stage, answer_read, step_read, answer_to, state_after, is_refused, Serves, Called}
+use Rattle.session.specs.Opening.{Lent, lent}
+use Rattle.session.specs.Calling.{stage, answer_read, step_read, answer_to, state_after, Serves, Called}
 use Rattle.session.specs.Promise.{answers_to, state_after_all, Run, done, next as step_then, Started, Right, RefusalKeeps, EnoughMemory}
 use Rattle.session.proofs.Starting.{needed_is, opened_sizes, long_parts}
 use Rattle.session.proofs.Readiness.{is_ready, all_sized}

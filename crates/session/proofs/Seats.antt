@@ -1,10 +1,10 @@
 -- The seat of a table stands inside memory, whatever memory holds.
-use Rattle.std.proofs.Common.{◌≡◌, ℕ, ◌+◌, ◌*◌, ◌<◌, ◌≤◌, Bool, true, false, cond, ◌&&◌, eqb, ltb, leb, List, length, get_or, Some, None, Ok, Err, Option, sym, refl, ap, ◌∙◌, subst, add-mul, arith}
-use Rattle.std.proofs.lemmas.Bool.{and_parts, leb-true, ltb-true}
+use Rattle.std.proofs.Common.{◌≡◌, ℕ, ◌+◌, ◌≤◌, ltb, List, length, Some, None, Ok, Option, sym, refl, subst, add-mul, arith}
+use Rattle.std.proofs.lemmas.Bool.{ltb-true}
 use Rattle.std.proofs.lemmas.Nat.{mul-le}
 use Rattle.tables.specs.declared.plan.Plan.{Plan}
 use Rattle.tables.specs.declared.acting.Seat.{Seat}
-use Rattle.tables.specs.Layout.{mark, plan_in, good_plan, plan_of}
+use Rattle.tables.specs.Layout.{plan_of}
 use Rattle.tables.specs.Inner.{Roomy}
 use Rattle.tables.specs.Acting.{seat_by, seat_of}
 use Rattle.tables.proofs.Planned.{planned}

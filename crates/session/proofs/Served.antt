@@ -1,18 +1,17 @@
 -- A call in bytes is served: what was read is done, and the answer stands whole in its slice.
-use Rattle.std.proofs.Common.{◌≡◌, ℕ, zero, suc, ◌+◌, ◌*◌, ◌<◌, ◌≤◌, min, Bool, true, false, cond, not, ◌&&◌, eqb, ltb, leb, List, [], ◌∷◌, length, get_or, Some, None, Ok, Err, Option, Result, unwrap_or, sym, refl, ap, ◌∙◌, subst, arith}
-use Rattle.std.proofs.lemmas.Bool.{and_parts, and_from, leb-true, lt-ltb, le-leb, cond-true, cond_both, both_ways, false≢true, not-true, eqb-false}
+use Rattle.std.proofs.Common.{◌≡◌, ℕ, suc, ◌+◌, ◌*◌, ◌<◌, ◌≤◌, min, Bool, true, false, cond, not, ◌&&◌, eqb, ltb, leb, List, [], ◌∷◌, length, get_or, Some, None, Ok, Err, Option, Result, unwrap_or, sym, refl, ap, ◌∙◌, subst, arith}
+use Rattle.std.proofs.lemmas.Bool.{and_parts, and_from, leb-true, lt-ltb, le-leb, cond-true, cond_both, false≢true, not-true, eqb-false}
 use Rattle.rules.specs.declared.Limits.{Limits}
 use Rattle.rules.specs.declared.Call.{Call}
-use Rattle.rules.specs.Calls.{Answer, refused, State, refusal, answer, step}
+use Rattle.rules.specs.Calls.{refused, State, refusal, answer}
 use Rattle.rules.specs.Bounds.{all_below}
 use Rattle.wire.specs.Fields.{written, room}
 use Rattle.wire.specs.Calls.{field_count, parse_call}
 use Rattle.wire.specs.Games.{size_of}
 use Rattle.answers.specs.Answers.{answer_bytes}
-use Rattle.tables.specs.declared.plan.Plan.{Plan}
-use Rattle.tables.specs.Layout.{state_words, plan_of, plan_in, sizes_of}
+use Rattle.tables.specs.Layout.{state_words, plan_in, sizes_of}
 use Rattle.tables.specs.Means.{Means}
-use Rattle.session.specs.Opening.{Lent, lent, PastKept, SameLengths}
+use Rattle.session.specs.Opening.{Lent, lent, SameLengths}
 use Rattle.session.specs.Calling.{stage, answer_read, step_read, refused_read, answer_to, state_after, is_refused, ready, WordsFit, Serves, Called}
 use Rattle.session.specs.Inner.{Acts}
 use Rattle.session.proofs.Readiness.{plan_there, ready_with, all_sized}

@@ -1,21 +1,17 @@
 -- What an opening that was not refused says of the sizes, and what memory that means a server says of its header.
-use Rattle.std.proofs.Common.{◌≡◌, ℕ, ◌+◌, ◌*◌, ◌<◌, ◌≤◌, Bool, true, false, cond, ◌&&◌, eqb, leb, List, length, get_or, Some, None, Ok, Err, Option, Result, sym, refl, ap, ◌∙◌, subst, arith}
-use Rattle.std.proofs.lemmas.Bool.{and_parts, and_from, leb-true, le-leb, eq-eqb}
+use Rattle.std.proofs.Common.{◌≡◌, ℕ, ◌≤◌, Bool, true, false, cond, ◌&&◌, leb, List, length, Some, None, Ok, Err, Option, Result, sym, refl, ap, ◌∙◌, subst, arith}
+use Rattle.std.proofs.lemmas.Bool.{and_parts, leb-true}
 use Rattle.rules.specs.declared.Limits.{Limits}
 use Rattle.rules.specs.declared.Refusal.{Refusal}
 use Rattle.rules.specs.Rules.{Game}
-use Rattle.rules.specs.Calls.{State}
 use Rattle.rules.specs.Bounds.{good_game, good_limits}
 use Rattle.wire.specs.declared.games.GameSize.{GameSize}
 use Rattle.wire.specs.Games.{parse_game, checked, checked_game, size_of}
 use Rattle.tables.specs.declared.plan.Sizes.{Sizes}
-use Rattle.tables.specs.declared.plan.Plan.{Plan}
-use Rattle.tables.specs.Layout.{header_words, state_words, sizes_of, plan_in, good_plan, plan_of}
-use Rattle.tables.specs.Means.{Means}
-use Rattle.session.specs.Opening.{Lent, lent, by_size, needed, long_enough, by_length, opening_answer, Opens}
+use Rattle.tables.specs.Layout.{sizes_of}
+use Rattle.session.specs.Opening.{Lent, by_size, needed, long_enough, by_length, opening_answer, Opens}
 use Rattle.tables.specs.Layout.{good_size}
 use Rattle.tables.specs.Acting.{sizes_for}
-use Rattle.session.specs.Calling.{ready}
 use Rattle.tables.proofs.Theorems.{good_games_have_good_sizes}
 
 -- a choice between a value and a refusal that came to a value

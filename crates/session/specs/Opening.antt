@@ -1,12 +1,12 @@
 -- How much memory a server asks for, and what opening one answers. Assumes nothing: these are definitions.
-use Rattle.std.specs.Prelude.{◌≡◌, ℕ, ◌+◌, ◌*◌, ◌≤◌, Bool, true, cond, ◌&&◌, List, length, Some, Ok, Err, Result, nat_le, slice_index}
+use Rattle.std.specs.Prelude.{◌≡◌, ℕ, ◌≤◌, Bool, cond, ◌&&◌, List, length, Some, Ok, Err, Result, nat_le, slice_index}
 use Rattle.rules.specs.declared.Limits.{Limits}
 use Rattle.rules.specs.declared.Refusal.{Refusal}
 use Rattle.rules.specs.Rules.{Game}
 use Rattle.rules.specs.Calls.{opened}
-use Rattle.rules.specs.Bounds.{good_limits, game_parts, possible_moves}
+use Rattle.rules.specs.Bounds.{good_limits}
 use Rattle.wire.specs.declared.games.GameSize.{GameSize}
-use Rattle.wire.specs.Games.{parse_game, checked, size_of}
+use Rattle.wire.specs.Games.{parse_game, checked}
 use Rattle.tables.specs.declared.plan.Sizes.{Sizes}
 use Rattle.tables.specs.Layout.{sizes_of}
 use Rattle.tables.specs.Means.{Means}

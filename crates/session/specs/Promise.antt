@@ -1,19 +1,15 @@
 -- What is promised of every server: its answers are those of the written rules, what it refuses changes nothing, and memory never runs out.
 -- The functions of the same names have these statements as their contracts. Assumes nothing: these are definitions.
-use Rattle.std.specs.Prelude.{◌≡◌, ℕ, ◌+◌, ◌*◌, ◌<◌, ◌≤◌, true, List, [], ◌∷◌, ◌++◌, length, take, drop, Some, Ok}
+use Rattle.std.specs.Prelude.{◌≡◌, ℕ, ◌+◌, ◌*◌, ◌≤◌, true, List, [], ◌∷◌, ◌++◌, length, take, drop, Some, Ok}
 use Rattle.rules.specs.declared.Limits.{Limits}
-use Rattle.rules.specs.declared.Call.{Call}
 use Rattle.rules.specs.Rules.{Game}
-use Rattle.rules.specs.Calls.{Answer, State, refusal, answers, opened, run}
-use Rattle.rules.specs.Bounds.{good_game, good_limits, game_parts, possible_moves, readable, all_readable, all_below}
-use Rattle.wire.specs.Calls.{call_bytes}
-use Rattle.wire.specs.Games.{game_bytes, parse_game, size_of}
-use Rattle.answers.specs.Answers.{answer_bytes, fits_answer}
+use Rattle.rules.specs.Calls.{State, opened}
+use Rattle.rules.specs.Bounds.{game_parts, possible_moves}
+use Rattle.wire.specs.Games.{parse_game}
+use Rattle.answers.specs.Answers.{answer_bytes}
 use Rattle.tables.specs.declared.plan.Sizes.{Sizes}
-use Rattle.tables.specs.Layout.{sizes_of}
-use Rattle.tables.specs.Means.{Means}
 use Rattle.session.specs.Opening.{Lent, lent, needed, Opens}
-use Rattle.session.specs.Calling.{stage, answer_to, state_after, is_refused, WordsFit, Called}
+use Rattle.session.specs.Calling.{answer_to, state_after, is_refused, Called}
 
 -- the answers to calls in bytes, one after the other, and the state that they lead to
 unfoldable pub answers_to : Limits → State → List (List ℕ) → List (List ℕ)

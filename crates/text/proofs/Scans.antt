@@ -1,7 +1,7 @@
 -- White space, letters and digits: how far each goes.
 use Rattle.std.proofs.Common.{◌≡◌, ℕ, ◌+◌, ◌-◌, ◌*◌, ◌<◌, ◌≤◌, true, false, cond, eqb, ltb, List, [], ◌∷◌, ◌++◌, length, take, Ok, Err, Result, refl, ap, ◌∙◌, subst, arith}
 use Rattle.std.proofs.lemmas.Bool.{and_from, cond_both, eqb-true, eqb-false, ltb-true, ltb-false}
-use Rattle.text.specs.Grammar.{word, number, blank, digit, all, value_from}
+use Rattle.text.specs.Grammar.{blank, digit, all, value_from}
 use Rattle.text.specs.Reader.{past, letters_at, digits_at}
 use Rattle.text.proofs.Splits.{starts}
 

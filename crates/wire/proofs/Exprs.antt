@@ -1,11 +1,10 @@
 -- Expressions are read as they are written, and only so.
-use Rattle.std.proofs.Common.{◌≡◌, ℕ, zero, suc, ◌+◌, ◌*◌, ◌^◌, ◌<◌, ◌≤◌, Bool, true, false, cond, ◌&&◌, ltb, List, [], ◌∷◌, ◌++◌, length, get_or, take, drop, sym, refl, ap, ◌∙◌, subst, append_assoc, arith}
-use Rattle.std.proofs.lemmas.Bool.{and_parts, and_from, ltb-true}
+use Rattle.std.proofs.Common.{◌≡◌, ℕ, suc, ◌+◌, Bool, true, ◌&&◌, List, [], ◌∷◌, ◌++◌, refl, ap, ◌∙◌, append_assoc, arith}
+use Rattle.std.proofs.lemmas.Bool.{and_parts, ltb-true}
 use Rattle.rules.specs.Rules.{Expr, Num, Cell, First, Second, Me, Add, Sub, Mul, Div, Rem, Lt, Eq, If}
-use Rattle.rules.specs.Bounds.{all_below}
-use Rattle.wire.specs.Numbers.{number_bytes, bytes_value}
-use Rattle.wire.specs.Exprs.{expr_bytes, expr_fits, Parsed, got, unreadable, and_then, Kind, part, alone, of_one, of_two, of_three, kind_after, join, read_exprs}
-use Rattle.wire.proofs.Numbers.{length_bytes, value_of_bytes, bytes_of_value}
+use Rattle.wire.specs.Numbers.{number_bytes}
+use Rattle.wire.specs.Exprs.{expr_bytes, expr_fits, Parsed, got, unreadable, and_then, Kind, alone, of_one, of_two, of_three, kind_after, join, read_exprs}
+use Rattle.wire.proofs.Numbers.{value_of_bytes}
 
 -- what is read has one expression more in front
 abbrev pub push : Expr → Parsed (List Expr) → Parsed (List Expr)

@@ -1,5 +1,5 @@
 -- What was read was written so; how many expressions were read; and that several may be read in two turns.
-use Rattle.std.proofs.Common.{◌≡◌, ℕ, zero, suc, ◌+◌, ◌-◌, ◌*◌, ◌<◌, ◌≤◌, Bool, true, false, cond, ◌&&◌, ltb, List, [], ◌∷◌, ◌++◌, length, get_or, take, drop, sym, refl, ap, ◌∙◌, subst, append_assoc, add_assoc, arith}
+use Rattle.std.proofs.Common.{◌≡◌, ℕ, zero, suc, ◌+◌, ◌<◌, ◌≤◌, Bool, true, false, cond, ◌&&◌, ltb, List, [], ◌∷◌, ◌++◌, length, take, drop, sym, refl, ap, ◌∙◌, append_assoc, arith}
 use Rattle.std.proofs.lemmas.Bool.{and_parts, and_from, ltb-true, lt-ltb}
 use Rattle.std.proofs.lemmas.List.{length-take-le, length-drop, take-append-drop, take-append-le, drop-append-le}
 use Rattle.rules.specs.Rules.{Expr, Num}
@@ -9,7 +9,7 @@ use Rattle.wire.specs.Exprs.{expr_bytes, expr_fits, Parsed, got, unreadable, and
 use Rattle.wire.proofs.Numbers.{bytes_of_value}
 use Rattle.wire.proofs.ExprsNumbers.{value_below}
 use Rattle.wire.proofs.Exprs.{push, joined, exprs_bytes, exprs_fit}
-use Rattle.wire.proofs.ExprsKinds.{Lawful, lawful}
+use Rattle.wire.proofs.ExprsKinds.{lawful}
 
 pub then_got : {A B : Type 0} (p : Parsed A) (f : A → List ℕ → Parsed B) (b : B) (r : List ℕ) → and_then p f ≡ got b r → (a : A) × (q : List ℕ) × (p ≡ got a q) × (f a q ≡ got b r)
 then_got (got a q) f b r h = (a, q, refl, h)

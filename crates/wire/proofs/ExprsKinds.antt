@@ -1,9 +1,9 @@
 -- What holds of every kind of expression alike: its bytes, its parts and its depth come from those of its parts.
-use Rattle.std.proofs.Common.{◌≡◌, ℕ, zero, suc, ◌+◌, ◌-◌, ◌<◌, ◌≤◌, Bool, true, false, cond, ◌&&◌, eqb, ltb, List, [], ◌∷◌, ◌++◌, length, get_or, take, drop, sym, refl, ap, ◌∙◌, append_assoc, arith}
+use Rattle.std.proofs.Common.{◌≡◌, ℕ, zero, suc, ◌+◌, ◌-◌, ◌<◌, ◌≤◌, Bool, true, false, cond, ◌&&◌, eqb, ltb, List, [], ◌∷◌, ◌++◌, length, sym, refl, ap, ◌∙◌, arith}
 use Rattle.std.proofs.lemmas.List.{append-nil}
-use Rattle.rules.specs.Rules.{Expr, Num, Cell, First, Second, Me, Add, Sub, Mul, Div, Rem, Lt, Eq, If}
+use Rattle.rules.specs.Rules.{Expr, Cell, First, Second, Me, Add, Sub, Mul, Div, Rem, Lt, Eq, If}
 use Rattle.rules.specs.Bounds.{fits_depth, expr_parts}
-use Rattle.wire.specs.Exprs.{expr_bytes, expr_fits, Kind, part, alone, of_one, of_two, of_three, kind_after}
+use Rattle.wire.specs.Exprs.{expr_bytes, expr_fits, Kind, alone, of_one, of_two, of_three, kind_after}
 use Rattle.wire.specs.GamesWalk.{exprs_parts, within_levels}
 use Rattle.wire.proofs.Exprs.{exprs_bytes, exprs_fit}
 

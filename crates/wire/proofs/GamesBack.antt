@@ -1,16 +1,16 @@
 -- What was read as a game was written so; and good games can be written.
-use Rattle.std.proofs.Common.{◌≡◌, ℕ, zero, suc, ◌+◌, ◌*◌, ◌^◌, ◌<◌, ◌≤◌, Bool, true, false, cond, ◌&&◌, ltb, leb, List, [], ◌∷◌, ◌++◌, length, get_or, take, drop, Some, None, Option, sym, refl, ap, ◌∙◌, subst, append_assoc, arith}
-use Rattle.std.proofs.lemmas.Bool.{and_parts, and_from, ltb-true, lt-ltb, leb-true, le-leb, cond-true}
-use Rattle.std.proofs.lemmas.List.{append-nil, length-append, take_at, drop_at, length-take-le, take-append-drop}
-use Rattle.rules.specs.Rules.{Expr, Effect, Rule, Game}
+use Rattle.std.proofs.Common.{◌≡◌, ℕ, zero, suc, ◌*◌, ◌^◌, ◌<◌, Bool, true, ◌&&◌, ltb, leb, List, [], ◌∷◌, ◌++◌, length, take, drop, Some, sym, refl, ap, ◌∙◌, subst, append_assoc, arith}
+use Rattle.std.proofs.lemmas.Bool.{and_parts, and_from, lt-ltb, leb-true}
+use Rattle.std.proofs.lemmas.List.{append-nil, length-take-le, take-append-drop}
+use Rattle.rules.specs.Rules.{Expr, Rule, Game}
 use Rattle.rules.specs.Bounds.{all_below}
 use Rattle.wire.specs.Numbers.{number_bytes, bytes_value}
-use Rattle.wire.specs.Exprs.{expr_bytes, expr_fits, Parsed, got, unreadable, and_then, part, read_exprs}
+use Rattle.wire.specs.Exprs.{expr_bytes, expr_fits, Parsed, got, unreadable, part, read_exprs}
 use Rattle.wire.specs.Games.{cells_bytes, effects_bytes, rule_bytes, rules_bytes, game_bytes, effects_fit, rule_fits, rules_fit, fits_bytes, read_number, read_cells, effects_of, read_rule, read_rules, read_game, whole, parse_game, GameWritesBack}
-use Rattle.wire.proofs.Numbers.{length_bytes, bytes_of_value}
+use Rattle.wire.proofs.Numbers.{bytes_of_value}
 use Rattle.wire.proofs.ExprsNumbers.{value_below}
 use Rattle.wire.proofs.Exprs.{exprs_bytes, exprs_fit}
-use Rattle.wire.proofs.ExprsBack.{with_got, not_got, same_got, cond_got, sized, wrote_exprs}
+use Rattle.wire.proofs.ExprsBack.{with_got, same_got, cond_got, sized, wrote_exprs}
 
 below_parts : (xs ys : List ℕ) → all_below 256 (xs ++ ys) ≡ true → (all_below 256 xs ≡ true) × (all_below 256 ys ≡ true)
 unfolding all_below

@@ -1,12 +1,10 @@
 -- From what was found in bytes to the answer.
-use Rattle.std.proofs.Common.{◌≡◌, ℕ, zero, suc, ◌<◌, ◌≤◌, Bool, true, false, cond, ◌&&◌, ltb, leb, List, [], ◌∷◌, length, get_or, Some, None, Ok, Err, Result, sym, refl, ap, ◌∙◌, arith}
+use Rattle.std.proofs.Common.{◌≡◌, ℕ, suc, ◌<◌, Bool, true, false, cond, ◌&&◌, ltb, leb, List, [], ◌∷◌, length, get_or, Ok, Err, sym, refl, ap, ◌∙◌}
 use Rattle.std.proofs.lemmas.Bool.{and_parts, and_from, lt-ltb, cond-true, cond-false}
-use Rattle.rules.specs.declared.Refusal.{Refusal}
 use Rattle.rules.specs.Rules.{Game}
 use Rattle.rules.specs.Bounds.{all_below, fits_depth, game_parts, possible_moves, good_rules, good_game}
-use Rattle.wire.specs.declared.games.GameSize.{GameSize}
 use Rattle.wire.specs.declared.games.Found.{Found}
-use Rattle.wire.specs.Games.{fits_bytes, parse_game, total_effects, size_of, checked_game, checked}
+use Rattle.wire.specs.Games.{fits_bytes, size_of, checked_game, checked}
 use Rattle.wire.specs.GamesWalk.{GameIn, in_limits}
 use Rattle.wire.proofs.GamesBack.{game_writes_back}
 

@@ -1,8 +1,8 @@
 -- From what was found in bytes to the limit that a game breaks.
-use Rattle.std.proofs.Common.{◌≡◌, ℕ, ◌+◌, ◌-◌, ◌*◌, ◌<◌, ◌≤◌, true, false, cond, ltb, List, [], ◌∷◌, length, drop, Some, None, Option, sym, refl, ap, ◌∙◌, arith}
+use Rattle.std.proofs.Common.{◌≡◌, ℕ, ◌+◌, ◌-◌, ◌*◌, ◌<◌, ◌≤◌, true, false, cond, ltb, List, [], ◌∷◌, drop, Some, None, Option, sym, ap, ◌∙◌, arith}
 use Rattle.std.proofs.lemmas.Bool.{lt-ltb, le-ltb, cond-true, cond-false}
 use Rattle.rules.specs.Rules.{Rule, Game}
-use Rattle.rules.specs.Bounds.{all_below, good_game}
+use Rattle.rules.specs.Bounds.{all_below}
 use Rattle.wire.specs.declared.games.Walk.{Walk}
 use Rattle.wire.specs.declared.games.Found.{Found}
 use Rattle.wire.specs.declared.excesses.Excess.{Excess}

@@ -1,7 +1,7 @@
 -- Good games can be written as bytes.
-use Rattle.std.proofs.Common.{◌≡◌, ℕ, zero, suc, ◌<◌, ◌≤◌, Bool, true, false, ◌&&◌, ltb, leb, List, [], ◌∷◌, length, sym, refl, ap, ◌∙◌, arith}
+use Rattle.std.proofs.Common.{◌≡◌, ℕ, zero, suc, ◌<◌, Bool, true, ◌&&◌, ltb, leb, List, [], ◌∷◌, length, refl, arith}
 use Rattle.std.proofs.lemmas.Bool.{and_parts, and_from, lt-ltb, leb-true, false≢true}
-use Rattle.rules.specs.Rules.{Expr, Num, Cell, First, Second, Me, Add, Sub, Mul, Div, Rem, Lt, Eq, If, Effect, Rule, Game}
+use Rattle.rules.specs.Rules.{Expr, Num, Cell, First, Second, Me, Add, Sub, Mul, Div, Rem, Lt, Eq, If, Effect, Rule}
 use Rattle.rules.specs.Bounds.{fits_depth, good_effects, good_rules, good_game, all_below, possible_moves, game_parts}
 use Rattle.wire.specs.Exprs.{expr_fits}
 use Rattle.wire.specs.Games.{effects_fit, rule_fits, rules_fit, fits_bytes, GoodGamesFit}

@@ -1,13 +1,13 @@
 -- The first bytes of an expression at a place of the bytes.
-use Rattle.std.proofs.Common.{◌≡◌, ℕ, zero, suc, ◌+◌, ◌-◌, ◌*◌, ◌<◌, ◌≤◌, Bool, true, false, cond, ltb, List, [], ◌∷◌, ◌++◌, length, get_or, take, drop, sym, refl, ap, ◌∙◌, subst, arith}
+use Rattle.std.proofs.Common.{◌≡◌, ℕ, suc, ◌+◌, ◌-◌, ◌<◌, ◌≤◌, List, [], ◌∷◌, length, get_or, drop, sym, refl, ap, ◌∙◌, arith}
 use Rattle.std.proofs.lemmas.Bool.{cond-true, cond-false, lt-ltb, le-ltb}
 use Rattle.std.proofs.lemmas.List.{drop_all, drop_more, length-drop}
 use Rattle.rules.specs.Rules.{Expr, Num}
 use Rattle.rules.specs.Bounds.{fits_depth, expr_parts}
 use Rattle.wire.specs.Numbers.{bytes_value}
-use Rattle.wire.specs.Exprs.{Parsed, got, unreadable, and_then, Kind, alone, kind_after, join, read_exprs}
+use Rattle.wire.specs.Exprs.{got, unreadable, and_then, Kind, alone, kind_after, join, read_exprs}
 use Rattle.wire.specs.GamesWalk.{exprs_parts, within_levels, Begins}
-use Rattle.wire.proofs.ExprsKinds.{Lawful, lawful}
+use Rattle.wire.proofs.ExprsKinds.{lawful}
 
 -- no expression can be read from i on
 abbrev pub Unreadable : List ℕ → ℕ → Type 0

@@ -1,16 +1,14 @@
 -- Games are read as they are written, and only so; and good games can be written.
-use Rattle.std.proofs.Common.{◌≡◌, ℕ, zero, suc, ◌+◌, ◌*◌, ◌^◌, ◌<◌, ◌≤◌, Bool, true, false, cond, ◌&&◌, ltb, leb, List, [], ◌∷◌, ◌++◌, length, get_or, take, drop, Some, None, sym, refl, ap, ◌∙◌, subst, append_assoc, arith}
-use Rattle.std.proofs.lemmas.Bool.{and_parts, and_from, ltb-true, lt-ltb, leb-true, le-leb, cond-true}
-use Rattle.std.proofs.lemmas.List.{append-nil, length-append, take_at, drop_at, length-take-le, take-append-drop}
-use Rattle.rules.specs.Rules.{Expr, Effect, Rule, Game}
+use Rattle.std.proofs.Common.{◌≡◌, ℕ, suc, ◌*◌, ◌^◌, ◌<◌, ◌≤◌, true, ◌&&◌, ltb, List, [], ◌∷◌, ◌++◌, length, refl, ap, ◌∙◌, append_assoc, arith}
+use Rattle.std.proofs.lemmas.Bool.{and_parts, ltb-true, le-leb, cond-true}
+use Rattle.std.proofs.lemmas.List.{append-nil, length-append, take_at, drop_at}
+use Rattle.rules.specs.Rules.{Expr, Effect, Rule}
 use Rattle.rules.specs.Bounds.{all_below}
 use Rattle.wire.specs.Numbers.{number_bytes, bytes_value}
-use Rattle.wire.specs.Exprs.{expr_bytes, expr_fits, Parsed, got, unreadable, and_then, part, read_exprs}
-use Rattle.wire.specs.Games.{cells_bytes, effects_bytes, rule_bytes, rules_bytes, game_bytes, effects_fit, rule_fits, rules_fit, fits_bytes, read_number, read_cells, effects_of, read_rule, read_rules, read_game, whole, parse_game, GameReadsBack, GameWritesBack}
-use Rattle.wire.proofs.Numbers.{length_bytes, value_of_bytes, bytes_of_value}
-use Rattle.wire.proofs.ExprsNumbers.{value_below}
-use Rattle.wire.proofs.Exprs.{push, reads_expr, exprs_bytes, exprs_fit}
-use Rattle.wire.proofs.ExprsBack.{then_got, not_got, same_got, cond_got, sized, wrote_exprs}
+use Rattle.wire.specs.Exprs.{expr_bytes, expr_fits, got, read_exprs}
+use Rattle.wire.specs.Games.{cells_bytes, effects_bytes, rule_bytes, rules_bytes, game_bytes, effects_fit, rule_fits, rules_fit, fits_bytes, read_number, read_cells, effects_of, read_rule, read_rules, read_game, parse_game, GameReadsBack}
+use Rattle.wire.proofs.Numbers.{length_bytes, value_of_bytes}
+use Rattle.wire.proofs.Exprs.{push, reads_expr}
 
 number_reads : (w n : ℕ) (r : List ℕ) → n < 256 ^ w → read_number w (number_bytes w n ++ r) ≡ got n r
 unfolding read_number

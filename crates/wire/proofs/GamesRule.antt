@@ -1,14 +1,14 @@
 -- A rule at a place of the bytes, step by step.
-use Rattle.std.proofs.Common.{◌≡◌, ℕ, zero, suc, ◌+◌, ◌-◌, ◌*◌, ◌<◌, ◌≤◌, Bool, true, false, cond, ◌&&◌, ltb, leb, List, [], ◌∷◌, ◌++◌, length, get_or, take, drop, sym, refl, ap, ◌∙◌, subst, ⊎_elim, mul-le-mul, arith}
+use Rattle.std.proofs.Common.{◌≡◌, ℕ, zero, suc, ◌+◌, ◌-◌, ◌*◌, ◌<◌, ◌≤◌, Bool, true, false, ◌&&◌, leb, List, [], ◌∷◌, length, get_or, take, drop, sym, refl, ap, ◌∙◌, ⊎_elim, mul-le-mul, arith}
 use Rattle.std.proofs.lemmas.Bool.{cond-true, cond-false, le-leb, lt-leb, cases_lt}
 use Rattle.std.proofs.lemmas.List.{drop_more, drop-drop, length-drop}
-use Rattle.rules.specs.Rules.{Expr, Effect, Rule}
+use Rattle.rules.specs.Rules.{Expr, Rule}
 use Rattle.rules.specs.Bounds.{fits_depth, expr_parts, effect_parts, rule_parts, possible_moves, good_effects, good_rules}
 use Rattle.wire.specs.declared.games.Walk.{Walk}
 use Rattle.wire.specs.Numbers.{bytes_value}
 use Rattle.wire.specs.Exprs.{Parsed, got, unreadable, and_then, part, read_exprs}
 use Rattle.wire.specs.Games.{read_number, effects_of, read_rule, total_effects}
-use Rattle.wire.specs.GamesWalk.{exprs_parts, within_levels, Passed, word_at, Counted, RuleAt, BoundsAt}
+use Rattle.wire.specs.GamesWalk.{exprs_parts, within_levels, Passed, word_at, RuleAt, BoundsAt}
 use Rattle.wire.proofs.ExprsBack.{sized}
 
 -- the two bytes at i

@@ -1,11 +1,11 @@
 -- Rules at a place of the bytes, one after the other.
-use Rattle.std.proofs.Common.{◌≡◌, ℕ, zero, suc, ◌+◌, ◌-◌, ◌*◌, ◌<◌, ◌≤◌, Bool, true, false, ◌&&◌, leb, List, [], ◌∷◌, length, drop, sym, refl, ap, ◌∙◌, subst, arith}
+use Rattle.std.proofs.Common.{◌≡◌, ℕ, suc, ◌+◌, ◌-◌, ◌<◌, ◌≤◌, Bool, true, false, ◌&&◌, leb, List, [], ◌∷◌, length, drop, sym, refl, ap, ◌∙◌, arith}
 use Rattle.rules.specs.Rules.{Rule}
 use Rattle.rules.specs.Bounds.{fits_depth, rule_parts, possible_moves, good_effects, good_rules}
 use Rattle.wire.specs.declared.games.Walk.{Walk}
 use Rattle.wire.specs.Exprs.{Parsed, got, unreadable, and_then}
 use Rattle.wire.specs.Games.{read_rule, read_rules, total_effects}
-use Rattle.wire.specs.GamesWalk.{Counted, RuleAt, RulesAt}
+use Rattle.wire.specs.GamesWalk.{RuleAt, RulesAt}
 
 pub no_rules : (bs : List ℕ) (i n : ℕ) → n ≡ 0 → i ≤ length bs → (us : List Rule) × RulesAt bs i n (record { end = i; effects = 0; moves = 0; parts = 0; good = true }) us
 unfolding read_rules total_effects possible_moves rule_parts good_rules

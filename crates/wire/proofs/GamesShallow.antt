@@ -1,9 +1,8 @@
 -- How deep expressions are, found by reading them level by level.
-use Rattle.std.proofs.Common.{◌≡◌, ℕ, zero, suc, ◌+◌, ◌-◌, ◌*◌, ◌<◌, ◌≤◌, Bool, true, false, ◌&&◌, List, [], ◌∷◌, ◌++◌, length, get_or, take, drop, Some, None, Option, sym, refl, ap, ◌∙◌, subst, arith}
+use Rattle.std.proofs.Common.{◌≡◌, ℕ, suc, ◌-◌, ◌<◌, ◌≤◌, true, ◌&&◌, List, [], ◌∷◌, ◌++◌, length, drop, Some, None, Option, sym, refl, ap, ◌∙◌, subst, arith}
 use Rattle.std.proofs.lemmas.Bool.{and_from, and_left, and_right}
 use Rattle.std.proofs.lemmas.List.{take_at, drop_at}
 use Rattle.rules.specs.Rules.{Expr}
-use Rattle.rules.specs.Bounds.{fits_depth}
 use Rattle.wire.specs.Exprs.{Parsed, got, unreadable, and_then, Kind, join, read_exprs}
 use Rattle.wire.specs.GamesWalk.{within_levels, Begins, Passed, Shallow}
 use Rattle.wire.proofs.Exprs.{joined}

@@ -1,8 +1,7 @@
 -- Passing over expressions by the count of those still to come.
-use Rattle.std.proofs.Common.{◌≡◌, ℕ, zero, suc, ◌+◌, ◌-◌, ◌*◌, ◌<◌, ◌≤◌, Bool, true, false, cond, List, [], ◌∷◌, ◌++◌, length, get_or, take, drop, sym, refl, ap, ◌∙◌, subst, arith}
+use Rattle.std.proofs.Common.{◌≡◌, ℕ, suc, ◌+◌, ◌<◌, ◌≤◌, List, [], ◌∷◌, ◌++◌, length, take, drop, sym, refl, ap, ◌∙◌, arith}
 use Rattle.std.proofs.lemmas.List.{length-drop, length-take-le, take-append-drop, drop-drop}
 use Rattle.rules.specs.Rules.{Expr}
-use Rattle.rules.specs.Bounds.{fits_depth, expr_parts}
 use Rattle.wire.specs.Exprs.{Parsed, got, unreadable, and_then, Kind, join, read_exprs}
 use Rattle.wire.specs.GamesWalk.{exprs_parts, Begins, Passed}
 use Rattle.wire.proofs.ExprsBack.{then_got, not_got, same_got, sized}

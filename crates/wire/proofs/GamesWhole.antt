@@ -1,15 +1,14 @@
 -- All bytes of a game, step by step.
-use Rattle.std.proofs.Common.{◌≡◌, ℕ, zero, suc, ◌+◌, ◌-◌, ◌*◌, ◌<◌, ◌≤◌, Bool, true, false, cond, ◌&&◌, ltb, leb, List, [], ◌∷◌, length, get_or, take, drop, Some, None, sym, refl, ap, ◌∙◌, subst, ⊎_elim, arith}
+use Rattle.std.proofs.Common.{◌≡◌, ℕ, zero, suc, ◌+◌, ◌-◌, ◌*◌, ◌<◌, ◌≤◌, Bool, ◌&&◌, List, [], ◌∷◌, length, get_or, drop, None, sym, refl, ap, ◌∙◌, ⊎_elim, arith}
 use Rattle.std.proofs.lemmas.Bool.{cases_lt}
-use Rattle.std.proofs.lemmas.List.{drop_more, drop_all, length-drop}
+use Rattle.std.proofs.lemmas.List.{drop_more, drop_all}
 use Rattle.rules.specs.Rules.{Expr, Rule, Game}
-use Rattle.rules.specs.Bounds.{fits_depth, expr_parts, rule_parts, game_parts, good_rules}
+use Rattle.rules.specs.Bounds.{fits_depth, expr_parts, game_parts}
 use Rattle.wire.specs.declared.games.Walk.{Walk}
 use Rattle.wire.specs.declared.games.Found.{Found}
-use Rattle.wire.specs.Numbers.{bytes_value}
 use Rattle.wire.specs.Exprs.{Parsed, got, unreadable, and_then, part, read_exprs}
 use Rattle.wire.specs.Games.{read_number, read_cells, read_rules, read_game, whole, parse_game}
-use Rattle.wire.specs.GamesWalk.{exprs_parts, within_levels, Passed, word_at, Counted, RulesAt, GameIn, RulesIn}
+use Rattle.wire.specs.GamesWalk.{exprs_parts, within_levels, Passed, word_at, RulesAt, GameIn, RulesIn}
 use Rattle.wire.proofs.ExprsBack.{sized}
 use Rattle.wire.proofs.GamesRule.{and_true, number_at, number_short, byte_is}
 

@@ -1,12 +1,12 @@
 -- What the steps of checking a game find in its bytes. No reader has to believe these: the contract of the whole does not name them.
-use Rattle.std.specs.Prelude.{◌≡◌, ℕ, zero, suc, ◌+◌, ◌-◌, ◌*◌, ◌<◌, ◌≤◌, Bool, true, false, ◌&&◌, List, [], ◌∷◌, length, take, drop, Some, None, Option, MatchOption, nat_le}
+use Rattle.std.specs.Prelude.{◌≡◌, ℕ, zero, suc, ◌+◌, ◌-◌, ◌*◌, ◌<◌, ◌≤◌, Bool, true, false, ◌&&◌, List, [], ◌∷◌, length, take, drop, Some, Option, MatchOption, nat_le}
 use Rattle.rules.specs.Rules.{Expr, Rule, Game}
 use Rattle.rules.specs.Bounds.{fits_depth, expr_parts, rule_parts, game_parts, possible_moves, good_rules}
 use Rattle.wire.specs.declared.games.Walk.{Walk}
 use Rattle.wire.specs.declared.games.Found.{Found}
 use Rattle.wire.specs.Numbers.{bytes_value}
 use Rattle.wire.specs.Games.{read_rule, read_rules, parse_game, total_effects}
-use Rattle.wire.specs.Exprs.{Parsed, got, unreadable, and_then, Kind, join, read_exprs}
+use Rattle.wire.specs.Exprs.{got, and_then, Kind, join, read_exprs}
 
 -- how many parts expressions have together
 unfoldable pub exprs_parts : List Expr → ℕ

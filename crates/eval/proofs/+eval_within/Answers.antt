@@ -1,8 +1,6 @@
-use Rattle.std.proofs.Common.{◌≡◌, ℕ, ◌+◌, ◌-◌, ◌*◌, cond, eqb, ltb, get_or, sym, refl, ap, ◌∙◌}
-use Rattle.rules.specs.Rules.{capped, quotient, remainder, eval}
-use Rattle.eval.specs.declared.Node.{Node}
-use Rattle.eval.specs.Memory.{node_at, expr_within}
-use Rattle.eval.proofs.Values.{value, no_level, by_row, of_two, min_capped, no_factor, if_zero, if_other}
+use Rattle.std.proofs.Common.{◌+◌, ◌-◌, ◌*◌, cond, eqb, ltb, get_or, sym, ◌∙◌}
+use Rattle.rules.specs.Rules.{capped, quotient, remainder}
+use Rattle.eval.proofs.Values.{no_level, by_row, of_two, min_capped, no_factor, if_zero, if_other}
 use Rattle.eval.proofs.+eval_within.Goals as goal
 
 pub returns-then-levels-eq0 : goal.returns-then-levels-eq0

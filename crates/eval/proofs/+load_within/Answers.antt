@@ -1,6 +1,5 @@
-use Rattle.std.proofs.Common.{◌≡◌, ℕ, suc, ◌+◌, ◌-◌, ◌<◌, [], ◌∷◌, ◌++◌, length, get_or, drop, sym, refl, ap, ◌∙◌, arith}
+use Rattle.std.proofs.Common.{◌-◌, [], ◌∷◌, ◌++◌, get_or, refl, arith}
 use Rattle.std.proofs.lemmas.List.{take_rest}
-use Rattle.wire.specs.Exprs.{kind_after}
 use Rattle.eval.proofs.Loading.{nothing, short_number, unknown_kind, at_levels, number, no_parts, next_part, all_parts, refuse}
 use Rattle.eval.proofs.+load_within.Goals as goal
 

@@ -1,7 +1,6 @@
-use Rattle.std.proofs.Common.{◌≡◌, ℕ, true, false, Ok, sym, refl, ap, ◌∙◌, subst, arith}
-use Rattle.game_text.specs.declared.progress.Progress.{Progress}
+use Rattle.std.proofs.Common.{Ok, sym, ap, ◌∙◌, subst, arith}
 use Rattle.game_text.specs.declared.progress.Token.TheVariants.{Gap}
-use Rattle.game_text.specs.Machine.{Outcome, Machine, beginning, reading, read}
+use Rattle.game_text.specs.Machine.{beginning, reading, read}
 use Rattle.game_text.specs.Room.{Room, machine_of}
 use Rattle.game_text.proofs.Answering.{said}
 use Rattle.game_text.proofs.Loops.{went_step, went_wrong, ended_short, ended_whole, ended_early}

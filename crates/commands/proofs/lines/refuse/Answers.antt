@@ -1,4 +1,4 @@
-use Rattle.std.proofs.Common.{◌≡◌, sym, ap, ◌∙◌}
+use Rattle.std.proofs.Common.{sym, ap, ◌∙◌}
 use Rattle.rules.specs.Calls.{refusal_place}
 use Rattle.commands.proofs.Refusing.{refuses_at, deep_place, flat_place, other_place}
 use Rattle.commands.proofs.lines.refuse.Goals as goal

@@ -1,4 +1,4 @@
-use Rattle.std.proofs.Common.{◌≡◌, ◌+◌, take, drop, sym, ap, ◌∙◌, arith}
+use Rattle.std.proofs.Common.{◌+◌, take, drop, sym, ◌∙◌, arith}
 use Rattle.game_text.specs.Positions.{moved_by}
 use Rattle.game_text.proofs.Columns.{on_line_end, on_other, none_on}
 use Rattle.game_text.proofs.positions.line_and_column.Goals.{then-text-i-eq10, else-text-i-eq10}

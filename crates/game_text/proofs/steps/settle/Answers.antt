@@ -1,4 +1,4 @@
-use Rattle.std.proofs.Common.{◌<◌, length, subst, arith, rules}
+use Rattle.std.proofs.Common.{subst, arith}
 use Rattle.game_text.specs.Room.{Sane}
 use Rattle.game_text.proofs.Settling.{look_fine, digits_settled, letters_settled}
 use Rattle.game_text.proofs.steps.settle.Goals as goal

@@ -1,4 +1,4 @@
-use Rattle.std.proofs.Common.{◌≡◌, ◌+◌, ◌-◌, length, ◌∙◌, arith}
+use Rattle.std.proofs.Common.{◌≡◌, ◌+◌, length, ◌∙◌, arith}
 use Rattle.std.proofs.lemmas.List.{take_rest, length-set}
 use Rattle.rows.proofs.LoadPlaced.{inside_earlier, no_exprs, not_refused, exprs_next}
 use Rattle.rows.proofs.loading.+load_exprs.Goals as goal

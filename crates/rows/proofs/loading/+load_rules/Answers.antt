@@ -1,4 +1,4 @@
-use Rattle.std.proofs.Common.{◌-◌, arith}
+use Rattle.std.proofs.Common.{arith}
 use Rattle.rows.proofs.LoadPlaced.{inside_earlier}
 use Rattle.rows.proofs.LoadRules.{no_rules, not_refused, rules_next}
 use Rattle.rows.proofs.loading.+load_rules.Goals as goal

@@ -1,4 +1,4 @@
-use Rattle.std.proofs.Common.{◌≡◌, sym, ◌∙◌}
+use Rattle.std.proofs.Common.{sym, ◌∙◌}
 use Rattle.rows.proofs.Reading.{one_more, none_left}
 use Rattle.rows.proofs.read.apply_effects.Goals as goal
 

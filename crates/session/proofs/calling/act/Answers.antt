@@ -1,4 +1,4 @@
-use Rattle.std.proofs.Common.{◌≡◌, sym, refl, ap, ◌∙◌, subst, arith}
+use Rattle.std.proofs.Common.{◌≡◌, sym, ap, ◌∙◌, subst, arith}
 use Rattle.rules.specs.Calls.{refusal_place}
 use Rattle.session.specs.Inner.{Acts}
 use Rattle.session.proofs.Acting.{sits, plays, changes_nothing, see_still, may_still, no_ticks, no_back, no_force}

@@ -1,4 +1,4 @@
-use Rattle.std.proofs.Common.{◌≡◌, ℕ, ◌<◌, length, get_or, sym, refl, ap, ◌∙◌, subst, arith, rules}
+use Rattle.std.proofs.Common.{refl, ◌∙◌, arith, rules}
 use Rattle.session.specs.Opening.{Lent, lent, SameLengths}
 use Rattle.session.proofs.Served.{words_fit, left_alone, low_place, acted, misread, acts_as}
 use Rattle.session.proofs.calling.call.Goals as goal

@@ -1,5 +1,5 @@
-use Rattle.std.proofs.Common.{◌≡◌, ◌<◌, ◌≤◌, ◌&&◌, leb, length, get_or, sym, ap, ◌∙◌}
-use Rattle.session.specs.Opening.{Lent, lent}
+use Rattle.std.proofs.Common.{sym}
+use Rattle.session.specs.Opening.{lent}
 use Rattle.session.proofs.Readiness.{ready_without, short_rules, short_scratch, by_answer}
 use Rattle.session.proofs.calling.is_ready.Goals as goal
 

@@ -1,4 +1,4 @@
-use Rattle.std.proofs.Common.{◌≡◌, ℕ, ◌+◌, ◌-◌, take, drop, sym, refl, ap, ◌∙◌, arith, rules}
+use Rattle.std.proofs.Common.{◌≡◌, ◌+◌, ◌-◌, take, drop, ap, arith, rules}
 use Rattle.session.proofs.Seats.{seat_inside}
 use Rattle.session.proofs.Acting.{may_refused, may_none, may_listed, room_some}
 use Rattle.session.proofs.calling.list.Goals as goal

@@ -1,4 +1,4 @@
-use Rattle.std.proofs.Common.{◌≡◌, sym, refl, ap, ◌∙◌}
+use Rattle.std.proofs.Common.{sym, refl, ap, ◌∙◌}
 use Rattle.rules.specs.Calls.{refusal_place}
 use Rattle.session.proofs.Refusing.{deep_place, flat_place, other_place}
 use Rattle.session.proofs.calling.refusal_of.Goals as goal

@@ -1,5 +1,5 @@
 use Rattle.std.proofs.Common.{sym, rules}
-use Rattle.session.specs.Opening.{needed, by_size}
+use Rattle.session.specs.Opening.{needed}
 use Rattle.session.proofs.Starting.{needs_none, needs_some}
 use Rattle.session.proofs.opening.needs.Goals as goal
 

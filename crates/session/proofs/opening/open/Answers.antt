@@ -1,6 +1,6 @@
-use Rattle.std.proofs.Common.{◌≡◌, sym, refl, ap, ◌∙◌, subst}
+use Rattle.std.proofs.Common.{sym}
 use Rattle.std.proofs.lemmas.Result.{err_from_is_err_and}
-use Rattle.session.specs.Opening.{Lent, lent, Opens}
+use Rattle.session.specs.Opening.{Lent, lent}
 use Rattle.session.proofs.Openings.{refuses, not_needed, too_short, never_unloaded, opens_well}
 use Rattle.session.proofs.opening.open.Goals as goal
 

@@ -1,4 +1,4 @@
-use Rattle.std.proofs.Common.{◌≡◌, Some, None, sym, ap, ◌∙◌}
+use Rattle.std.proofs.Common.{Some, None, sym, ap, ◌∙◌}
 use Rattle.wire.specs.Excess.{excess_of}
 use Rattle.wire.proofs.GamesCheck.{below_from}
 use Rattle.wire.proofs.GamesExcess.{nothing_broken, count_broken, bound_or_depth}

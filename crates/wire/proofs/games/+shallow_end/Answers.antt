@@ -1,4 +1,4 @@
-use Rattle.std.proofs.Common.{◌≡◌, ℕ, suc, ◌-◌, Some, None, sym, subst, arith}
+use Rattle.std.proofs.Common.{◌≡◌, suc, ◌-◌, Some, None, sym, subst, arith}
 use Rattle.wire.specs.GamesWalk.{Shallow}
 use Rattle.wire.proofs.GamesShallow.{no_expression, no_level, no_head, parts_deep, others_next, at_more}
 use Rattle.wire.proofs.games.+shallow_end.Goals as goal

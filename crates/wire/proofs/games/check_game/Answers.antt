@@ -1,4 +1,4 @@
-use Rattle.std.proofs.Common.{◌≡◌, sym, ap, ◌∙◌}
+use Rattle.std.proofs.Common.{sym, ap, ◌∙◌}
 use Rattle.wire.specs.Games.{checked_game, checked}
 use Rattle.wire.proofs.GamesCheck.{below_from, not_good, is_good}
 use Rattle.wire.proofs.games.check_game.Goals as goal

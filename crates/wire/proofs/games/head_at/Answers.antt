@@ -1,4 +1,4 @@
-use Rattle.std.proofs.Common.{◌≡◌, ◌+◌, arith}
+use Rattle.std.proofs.Common.{◌+◌, arith}
 use Rattle.wire.proofs.GamesHead.{past_end, short_number, number_head, unknown_kind, kind_head}
 use Rattle.wire.proofs.games.head_at.Goals as goal
 

@@ -1,4 +1,4 @@
-use Rattle.std.proofs.Common.{◌≡◌, sym}
+use Rattle.std.proofs.Common.{sym}
 use Rattle.wire.proofs.games.is_shallow.Goals as goal
 
 pub returns-in-None : goal.returns-in-None

@@ -1,7 +1,6 @@
-use Rattle.std.proofs.Common.{◌≡◌, ℕ, suc, ◌+◌, ◌-◌, length, drop, sym, ap, ◌∙◌, arith}
+use Rattle.std.proofs.Common.{◌≡◌, ℕ, suc, ◌+◌, ◌-◌, drop, sym, ap, ◌∙◌, arith}
 use Rattle.std.proofs.lemmas.List.{length-drop}
 use Rattle.wire.specs.Exprs.{read_exprs}
-use Rattle.wire.specs.GamesWalk.{Begins}
 use Rattle.wire.proofs.GamesSkip.{tallied, tallied_none, too_few, tallied_step, tallied_end}
 use Rattle.wire.proofs.games.skip_front.Goals as goal
 

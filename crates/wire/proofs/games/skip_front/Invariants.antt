@@ -1,4 +1,4 @@
-use Rattle.std.proofs.Common.{◌≡◌, ◌+◌, ◌-◌, ◌≤◌, length, drop}
+use Rattle.std.proofs.Common.{◌≡◌, ◌-◌, ◌≤◌, length, drop}
 use Rattle.wire.specs.Exprs.{read_exprs}
 use Rattle.wire.proofs.GamesSkip.{tallied}
 use Rattle.wire.proofs.games.skip_front.Given as goal

@@ -1,4 +1,4 @@
-use Rattle.std.proofs.Common.{◌≡◌, ◌+◌, drop, arith}
+use Rattle.std.proofs.Common.{arith}
 use Rattle.wire.proofs.GamesRule.{no_bounds, no_guard, no_count, no_effects, rule_found}
 use Rattle.wire.proofs.games.walk_rule.Goals as goal
 
