@@ -1,13 +1,13 @@
 -- The tests of a game and of limits say just what their bounds do.
 use Rattle.std.proofs.Common.{◌≡◌, ℕ, ◌≤◌, true, ◌&&◌, ltb, leb, List, [], ◌∷◌, length, refl, arith}
-use Rattle.std.specs.List.{AllByRecursion as All}
+use Rattle.std.specs.List.{AllByRecursion}
 use Rattle.std.proofs.lemmas.Bool.{leb-true, le-leb, ltb-true, lt-ltb, and_parts, and_from}
 use Rattle.rules.specs.declared.Limits.{Limits}
 use Rattle.rules.specs.Rules.{Effect, Rule, Game}
 use Rattle.rules.specs.Bounds.{fits_depth, possible_moves, game_parts, good_effects, good_rules, all_below, good_game, good_limits}
 use Rattle.laws.specs.Bounds.{GoodEffect, GoodRule, GoodGame, GoodLimits, GoodJustIf}
 
-effects_say : (es : List Effect) → good_effects es ≡ true → All GoodEffect es
+effects_say : (es : List Effect) → good_effects es ≡ true → AllByRecursion GoodEffect es
 unfolding good_effects
 effects_say [] h = tt
 effects_say (e ∷ es) h =
@@ -15,12 +15,12 @@ effects_say (e ∷ es) h =
     let b = and_parts _ _ a.1 in
     (record { cell = a.0; value = b.0 }, effects_say es b.1)
 
-effects_from : (es : List Effect) → All GoodEffect es → good_effects es ≡ true
+effects_from : (es : List Effect) → AllByRecursion GoodEffect es → good_effects es ≡ true
 unfolding good_effects
 effects_from [] h = refl
 effects_from (e ∷ es) (good, rest) = and_from _ _ good.cell (and_from _ _ good.value (effects_from es rest))
 
-rules_say : (rs : List Rule) → good_rules rs ≡ true → All GoodRule rs
+rules_say : (rs : List Rule) → good_rules rs ≡ true → AllByRecursion GoodRule rs
 unfolding good_rules
 rules_say [] h = tt
 rules_say (r ∷ rs) h =
@@ -39,21 +39,21 @@ rules_say (r ∷ rs) h =
       rules_say rs e.1,
     )
 
-rules_from : (rs : List Rule) → All GoodRule rs → good_rules rs ≡ true
+rules_from : (rs : List Rule) → AllByRecursion GoodRule rs → good_rules rs ≡ true
 unfolding good_rules
 rules_from [] h = refl
 rules_from (r ∷ rs) (good, rest) =
     and_from _ _ (and_from _ _ (and_from _ _ (le-leb _ _ good.first) (le-leb _ _ good.second)) (le-leb _ _ good.how_many_effects))
     (and_from _ _ good.guard (and_from _ _ (effects_from r.effects good.effects) (rules_from rs rest)))
 
-cells_say : (p : List ℕ) → all_below 65536 p ≡ true → All (λ a. a ≤ 65535) p
+cells_say : (p : List ℕ) → all_below 65536 p ≡ true → AllByRecursion (λ a. a ≤ 65535) p
 unfolding all_below
 cells_say [] h = tt
 cells_say (a ∷ p) h =
     let b = and_parts (ltb a 65536) (all_below 65536 p) h in
     (omega (arith, ltb-true a 65536 b.0), cells_say p b.1)
 
-cells_from : (p : List ℕ) → All (λ a. a ≤ 65535) p → all_below 65536 p ≡ true
+cells_from : (p : List ℕ) → AllByRecursion (λ a. a ≤ 65535) p → all_below 65536 p ≡ true
 unfolding all_below
 cells_from [] h = refl
 cells_from (a ∷ p) (small, rest) = and_from _ _ (lt-ltb a 65536 (omega arith)) (cells_from p rest)

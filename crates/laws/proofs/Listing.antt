@@ -1,7 +1,7 @@
 -- The list of legal moves. Assumes nothing.
 use Rattle.std.proofs.Common.{◌≡◌, ℕ, zero, suc, ◌+◌, ◌<◌, ◌≤◌, Bool, true, false, cond, not, ◌&&◌, eqb, ltb, List, [], ◌∷◌, ◌++◌, length, get_or, sym, refl, ap, ◌∙◌, inl, inr, arith}
 use lib.Dec.{leb-suc-suc}
-use Rattle.std.specs.List.{AllByRecursion as All}
+use Rattle.std.specs.List.{AllByRecursion}
 use Rattle.std.proofs.ByRecursion.{All-append, All-weaker}
 use Rattle.std.proofs.lemmas.Bool.{both_ways, eqb-true, eqb-false, eq-eqb, lt-ltb, le-ltb, and_parts, or_right, or_parts, cases_Bool, cond-true, cond-false}
 use Rattle.std.proofs.lemmas.Bool.Decides.{nat_tests}
@@ -28,7 +28,7 @@ times_append [] ys v = omega arith
 times_append (x ∷ xs) ys v = omega (arith, times_append xs ys v)
 
 -- a move that is like none of the list stands in it no time
-times_none : (P : Move → Type 0) (v : Move) → ((w : Move) → P w → w ≡ v → ⊥) → (ws : List Move) → All P ws → times_in ws v ≡ 0
+times_none : (P : Move → Type 0) (v : Move) → ((w : Move) → P w → w ≡ v → ⊥) → (ws : List Move) → AllByRecursion P ws → times_in ws v ≡ 0
 unfolding times_in
 times_none P v f [] a = refl
 times_none P v f (w ∷ ws) a = let e : same_move w v ≡ false = differs w v (f w a.0) in rw e (omega (arith, times_none P v f ws a.1))
@@ -44,12 +44,12 @@ abbrev FromRule : ℕ → Move → Type 0
 FromRule r v = r ≤ v.rule
 
 -- a list of one move or none
-all_if : (P : Move → Type 0) (b : Bool) (v : Move) → P v → All P (cond b (v ∷ []) [])
+all_if : (P : Move → Type 0) (b : Bool) (v : Move) → P v → AllByRecursion P (cond b (v ∷ []) [])
 all_if P true v h = (h, tt)
 all_if P false v h = tt
 
 module _ (g : Game) (p : Position) where
-  all_of_second : (r x n : ℕ) → All (OfSecond r x n) (moves_by_second g p r x n)
+  all_of_second : (r x n : ℕ) → AllByRecursion (OfSecond r x n) (moves_by_second g p r x n)
   unfolding moves_by_second
   all_of_second r x zero = tt
   all_of_second r x (suc n) =
@@ -58,7 +58,7 @@ module _ (g : Game) (p : Position) where
       (All-weaker (OfSecond r x n) (OfSecond r x (suc n)) (λ w h. omega arith) (moves_by_second g p r x n) (all_of_second r x n))
       (all_if (OfSecond r x (suc n)) (is_legal g p v) v (omega arith))
 
-  all_of_first : (r x n : ℕ) → All (OfFirst r x) (moves_by_first g p r x n)
+  all_of_first : (r x n : ℕ) → AllByRecursion (OfFirst r x) (moves_by_first g p r x n)
   unfolding moves_by_first
   all_of_first r zero n = tt
   all_of_first r (suc x) n =
@@ -66,7 +66,7 @@ module _ (g : Game) (p : Position) where
       (All-weaker (OfFirst r x) (OfFirst r (suc x)) (λ w h. omega arith) (moves_by_first g p r x n) (all_of_first r x n))
       (All-weaker (OfSecond r x n) (OfFirst r (suc x)) (λ w h. omega arith) (moves_by_second g p r x n) (all_of_second r x n))
 
-  all_from_rule : (r : ℕ) (us : List Rule) → All (FromRule r) (moves_by_rule g p r us)
+  all_from_rule : (r : ℕ) (us : List Rule) → AllByRecursion (FromRule r) (moves_by_rule g p r us)
   unfolding moves_by_rule
   all_from_rule r [] = tt
   all_from_rule r (u ∷ us) =
@@ -78,7 +78,7 @@ module _ (g : Game) (p : Position) where
 
 -- two lists that ascend, the second after all of the first
 joined_ascends : (P Q : Move → Type 0) → ((v w : Move) → P v → Q w → Before v w) → (vs ws : List Move) →
-    All P vs → All Q ws → Ascending vs → Ascending ws → Ascending (vs ++ ws)
+    AllByRecursion P vs → AllByRecursion Q ws → Ascending vs → Ascending ws → Ascending (vs ++ ws)
 joined_ascends P Q f [] ws a b c d = d
 joined_ascends P Q f (v ∷ vs) ws a b c d =
     (All-append (Before v) vs ws c.0 (All-weaker Q (Before v) (λ w h. f v w a.0 h) ws b), joined_ascends P Q f vs ws a.1 b c.1 d)

@@ -1,6 +1,6 @@
 -- Every table stands where its moves lead. Assumes nothing.
 use Rattle.std.proofs.Common.{◌≡◌, ℕ, ◌<◌, Bool, true, false, cond, not, ◌&&◌, eqb, ltb, List, [], ◌∷◌, ◌++◌, length, replicate, refl, ap, ◌∙◌, subst, arith}
-use Rattle.std.specs.List.{AllByRecursion as All}
+use Rattle.std.specs.List.{AllByRecursion}
 use Rattle.std.proofs.ByRecursion.{All-get_or, All-push, All-set}
 use Rattle.std.proofs.lemmas.Bool.{eqb-true, ltb-true, and_parts, and_from, or_parts, not_from_false, cond_both}
 use Rattle.rules.specs.declared.Move.{Move}
@@ -55,14 +55,14 @@ playable l s t m v h =
     record { there = ltb-true _ _ a.0; goes_on = (or_parts u.timed_out _ b.0).1; legal = d.0 }
 
 -- ticks change no position and no moves
-ticked_sound : (g : Game) (n : ℕ) (us : List Table) → All (Sound g) us → All (Sound g) (all_ticked g n us)
+ticked_sound : (g : Game) (n : ℕ) (us : List Table) → AllByRecursion (Sound g) us → AllByRecursion (Sound g) (all_ticked g n us)
 unfolding all_ticked
 ticked_sound g n [] a = tt
 ticked_sound g n (u ∷ us) a =
     (cond_both (u.clocked && not (table_over g u)) (ticked g n u) u (Sound g) (λ _. a.0) (λ _. a.0), ticked_sound g n us a.1)
 
 abbrev AllSound : State → Type 0
-AllSound s = All (Sound s.game) s.tables
+AllSound s = AllByRecursion (Sound s.game) s.tables
 
 next_sound : (l : Limits) (s : State) (c : Call) → refusal_of l s c ≡ 0 → AllSound s → AllSound (next s c)
 unfolding next replay all_were_legal

@@ -1,6 +1,6 @@
 -- Which games and limits a server may be opened with, bound by bound. Assumes nothing: these are statements.
 use Rattle.std.specs.Prelude.{◌≡◌, ◌≤◌, true, length}
-use Rattle.std.specs.List.{AllByRecursion as All}
+use Rattle.std.specs.List.{AllByRecursion}
 use Rattle.rules.specs.declared.Limits.{Limits}
 use Rattle.rules.specs.Rules.{Effect, Rule, Game}
 use Rattle.rules.specs.Bounds.{fits_depth, possible_moves, game_parts, good_game, good_limits}
@@ -15,7 +15,7 @@ pub record GoodRule (r : Rule) : Type 0 where
   pub second : r.second_bound ≤ 256
   pub how_many_effects : length r.effects ≤ 255
   pub guard : fits_depth r.guard 32 ≡ true
-  pub effects : All GoodEffect r.effects
+  pub effects : AllByRecursion GoodEffect r.effects
 
 -- 1 to 4 play on 1 to 256 cells, each at most 65,535 at the start, by at most 64 rules, which together have at most 4,096 moves;
 -- the game has at most 16,384 parts
@@ -24,9 +24,9 @@ pub record GoodGame (g : Game) : Type 0 where
   pub how_many_play : g.players ≤ 4
   pub some_cell : 1 ≤ length g.start
   pub how_many_cells : length g.start ≤ 256
-  pub cells : All (λ a. a ≤ 65535) g.start
+  pub cells : AllByRecursion (λ a. a ≤ 65535) g.start
   pub how_many_rules : length g.rules ≤ 64
-  pub rules : All GoodRule g.rules
+  pub rules : AllByRecursion GoodRule g.rules
   pub how_many_moves : possible_moves g.rules ≤ 4096
   pub how_many_parts : game_parts g ≤ 16384
   pub terminal : fits_depth g.terminal 32 ≡ true

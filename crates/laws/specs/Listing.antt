@@ -1,6 +1,6 @@
 -- The list of legal moves has each legal move once, and no other, in ascending order. Assumes nothing.
 use Rattle.std.specs.Prelude.{◌≡◌, ℕ, ◌+◌, ◌<◌, Bool, true, false, cond, ◌&&◌, ◌⊎◌, List, [], ◌∷◌, ◌==◌}
-use Rattle.std.specs.List.{AllByRecursion as All}
+use Rattle.std.specs.List.{AllByRecursion}
 use Rattle.rules.specs.declared.Move.{Move}
 use Rattle.rules.specs.Rules.{Position, Game, is_legal}
 use Rattle.rules.specs.Play.{legal_moves, is_over}
@@ -31,7 +31,7 @@ Before v w =
 -- each move comes before every later one
 abbrev pub Ascending : List Move → Type 0
 Ascending [] = Unit {0}
-Ascending (v ∷ vs) = All (Before v) vs × Ascending vs
+Ascending (v ∷ vs) = AllByRecursion (Before v) vs × Ascending vs
 
 -- the list ascends
 abbrev pub ListedInOrder : Type 0

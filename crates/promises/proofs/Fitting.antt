@@ -1,6 +1,6 @@
 -- Where the words of memory have four bytes, so have the numbers of every answer.
 use Rattle.std.proofs.Common.{◌≡◌, ℕ, zero, suc, ◌+◌, ◌*◌, ◌<◌, ◌≤◌, Bool, true, false, cond, ◌&&◌, eqb, ltb, leb, List, [], ◌∷◌, length, get_or, take, drop, refl, subst, inl, inr, ⊎_elim, arith, length-take}
-use Rattle.std.specs.List.{AllByRecursion as All}
+use Rattle.std.specs.List.{AllByRecursion}
 use Rattle.std.proofs.ByRecursion.{All-append, All-take}
 use Rattle.std.proofs.lemmas.List.{get_or_past}
 use Rattle.std.proofs.lemmas.Bool.{and_parts, ltb-true, cond_both, cases_lt}
@@ -30,7 +30,7 @@ use Rattle.session.proofs.Readiness.{limits_say}
 abbrev Small : Move → Type 0
 Small v = (v.rule < 4294967296) × (v.first < 4294967296) × (v.second < 4294967296)
 
-fields_fit : (vs : List Move) → All Small vs → all_below 4294967296 (moves_fields vs) ≡ true
+fields_fit : (vs : List Move) → AllByRecursion Small vs → all_below 4294967296 (moves_fields vs) ≡ true
 unfolding moves_fields
 fields_fit [] h = no_words_fit
 fields_fit (v ∷ vs) h = fit_words _ _ h.0.0 (fit_words _ _ h.0.1 (fit_words _ _ h.0.2 (fields_fit vs h.1)))
@@ -39,16 +39,16 @@ fields_fit (v ∷ vs) h = fit_words _ _ h.0.0 (fit_words _ _ h.0.1 (fit_words _ 
 word_small : (w : List ℕ) (i : ℕ) → all_below 4294967296 w ≡ true → get_or w i 0 < 4294967296
 word_small w i h = get_d_small 4294967296 (omega arith) w i h
 
-moves_small : (w : List ℕ) (from : ℕ) (owner : ℕ → ℕ) (t k : ℕ) → all_below 4294967296 w ≡ true → All Small (moves_of w from owner t k)
+moves_small : (w : List ℕ) (from : ℕ) (owner : ℕ → ℕ) (t k : ℕ) → all_below 4294967296 w ≡ true → AllByRecursion Small (moves_of w from owner t k)
 unfolding moves_of
 moves_small w from owner t zero h = tt
 moves_small w from owner t (suc k) h =
     let v : Move = move_in w (from + 4 * k) in
     All-append Small (moves_of w from owner t k) (cond (eqb (owner k) t) (v ∷ []) []) (moves_small w from owner t k h)
-    (cond_both (eqb (owner k) t) (v ∷ []) [] (All Small) (λ e. ((word_small w _ h, word_small w _ h, word_small w _ h), tt)) (λ e. tt))
+    (cond_both (eqb (owner k) t) (v ∷ []) [] (AllByRecursion Small) (λ e. ((word_small w _ h, word_small w _ h, word_small w _ h), tt)) (λ e. tt))
 
 -- so the position after them has small cells
-replay_small : (g : Game) (p : Position) (vs : List Move) → all_below 4294967296 p ≡ true → All Small vs → all_below 4294967296 (replay g p vs) ≡ true
+replay_small : (g : Game) (p : Position) (vs : List Move) → all_below 4294967296 p ≡ true → AllByRecursion Small vs → all_below 4294967296 (replay g p vs) ≡ true
 unfolding replay
 replay_small g p [] hp h = hp
 replay_small g p (v ∷ vs) hp h = replay_small g (apply g p v) vs (apply_small 4294967296 (omega arith) g p v hp h.0.1 h.0.2) h.1
@@ -69,11 +69,11 @@ legal_small g p v good h =
     let d = and_parts (ltb v.first (rule_at g v.rule).first_bound) _ c.0 in
     (omega (arith, k.few_rules, ltb-true _ _ a.0), omega (arith, b.0, ltb-true _ _ d.0), omega (arith, b.1, ltb-true _ _ d.1))
 
-all_members : (P : Move → Type 0) (vs : List Move) → ((v : Move) → Member v vs → P v) → All P vs
+all_members : (P : Move → Type 0) (vs : List Move) → ((v : Move) → Member v vs → P v) → AllByRecursion P vs
 all_members P [] h = tt
 all_members P (v ∷ vs) h = (h v (inl refl), all_members P vs (λ w m. h w (inr m)))
 
-legal_moves_small : (g : Game) (p : Position) → good_game g ≡ true → All Small (legal_moves g p)
+legal_moves_small : (g : Game) (p : Position) → good_game g ≡ true → AllByRecursion Small (legal_moves g p)
 legal_moves_small g p good = all_members Small (legal_moves g p) (λ v m. legal_small g p v good (listed_is_legal g p v m))
 
 -- no table has more moves than all together
@@ -90,7 +90,7 @@ record Fits (u : Table) : Type 0 where
   pub few_cells : length u.cells ≤ 256
   pub few_clocks : length u.clocks ≤ 256
   pub few_played : length u.played ≤ 1000000
-  pub played : All Small u.played
+  pub played : AllByRecursion Small u.played
 
 module _ (rules w : List ℕ) (l : Limits) (s : State) (means : Means rules w l s) (fit : all_below 4294967296 w ≡ true) where
   part_fits : (n a : ℕ) (xs : List ℕ) → n ≤ 256 → take n (drop a w) ≡ xs → (all_below 4294967296 xs ≡ true) × (length xs ≤ 256)
@@ -116,7 +116,7 @@ module _ (rules w : List ℕ) (l : Limits) (s : State) (means : Means rules w l 
         few_cells = both.0.1;
         few_clocks = both.1.1;
         few_played = omega (arith, played_few s.tables t, means.few_moves, (limits_say l means.limits).1);
-        played = subst (All Small) (means.log.moves t) (moves_small w (entry_place n l.tables 0) means.log.owner t (total_played s.tables) fit);
+        played = subst (AllByRecursion Small) (means.log.moves t) (moves_small w (entry_place n l.tables 0) means.log.owner t (total_played s.tables) fit);
       }
 
   start_small : all_below 4294967296 s.game.start ≡ true
@@ -137,7 +137,7 @@ unfolding fits_answer answer_fields
 shown_fits p t e cs hp lp ht he hc lc =
     fit_words _ _ (omega arith) (below_append _ p _ hp (fit_words _ t ht (fit_words _ e (omega arith) (fit_words _ _ (omega arith) hc))))
 
-listed_fits : (vs : List Move) → All Small vs → length vs ≤ 4096 → fits_answer (listed vs) ≡ true
+listed_fits : (vs : List Move) → AllByRecursion Small vs → length vs ≤ 4096 → fits_answer (listed vs) ≡ true
 unfolding fits_answer answer_fields
 listed_fits vs h few = fit_words _ _ (omega arith) (fields_fit vs h)
 

@@ -4,7 +4,7 @@ use Rattle.std.proofs.lemmas.Fmt.{decimal_nonempty, digits_decimal, digits_value
 use Rattle.std.proofs.lemmas.List.{append-nil}
 use Rattle.std.proofs.lemmas.Str.Parse.{IsNumeralModel, numerals_by_fold}
 use Rattle.std.proofs.lemmas.Bool.Decides.{nat_tests}
-use Rattle.std.specs.List.{AllByRecursion as All}
+use Rattle.std.specs.List.{AllByRecursion}
 use Rattle.rules.specs.Bounds.{readable}
 use Rattle.rules.specs.declared.Call.{Call}
 use Rattle.rules.specs.declared.Call.TheVariants.{Sit, Play, Ticks, See, May, Back, CanForce}
@@ -107,7 +107,7 @@ printed_spells (word w) h = refl
 printed_spells (number n) h = let l : n < 2 ^ 64 = omega arith in (decimal_nonempty n l, digits_decimal own n l, digits_value-decimal own n l, h)
 
 -- and so are several, with a blank between them
-printed_written : (ps : List Piece) → All Printable ps → Written 0 ps (printed_pieces ps)
+printed_written : (ps : List Piece) → AllByRecursion Printable ps → Written 0 ps (printed_pieces ps)
 unfolding printed_pieces all
 printed_written [] h = end [] refl
 printed_written (p ∷ []) h =
@@ -116,7 +116,7 @@ printed_written (p ∷ q ∷ ps) h =
     piece [] (printed_piece p) (32 ∷ printed_pieces (q ∷ ps)) (omega arith) refl (printed_spells p h.0) (more_space (printed_written (q ∷ ps) h.1))
 
 -- the numbers of a readable call fit
-printable : (c : Call) → readable c ≡ true → All Printable (pieces c)
+printable : (c : Call) → readable c ≡ true → AllByRecursion Printable (pieces c)
 unfolding pieces readable
 printable (Sit n) e = grind (arith, nat_tests)
 printable (Play t m v) e = grind (arith, nat_tests)

@@ -1,7 +1,7 @@
 -- The lines of the grammar are those of the seven forms.
 use Rattle.std.proofs.Common.{◌≡◌, ℕ, zero, suc, ◌+◌, ◌<◌, ◌≤◌, true, ◌⊎◌, List, [], ◌∷◌, ◌++◌, length, take, Ok, Err, Result, sym, refl, ap, ◌∙◌, subst, inl, inr, ⊎_elim, arith}
 use Rattle.std.proofs.lemmas.List.{length-append, append_assoc, append-nil, take_at}
-use Rattle.std.specs.List.{AllByRecursion as All}
+use Rattle.std.specs.List.{AllByRecursion}
 use Rattle.rules.specs.declared.Call.{Call}
 use Rattle.rules.specs.declared.Call.TheVariants.{Sit, Play, Ticks, See, May, Back, CanForce}
 use Rattle.text.specs.Grammar.{Piece, word, number, pieces, blank, all, Spells, Written, end, piece, IsLine, ReadsAs, Reads}
@@ -129,7 +129,7 @@ Any L (f ∷ fs) = Any (λ c xs. L c xs ⊎ lines f c xs) fs
 
 -- the best of several answers is right for all their forms
 best_good :
-    (L : Call → List ℕ → Type 0) (r : Result Call ℕ) (fs : List Form) (line : List ℕ) → All Proper fs → Good L line 0 r →
+    (L : Call → List ℕ → Type 0) (r : Result Call ℕ) (fs : List Form) (line : List ℕ) → AllByRecursion Proper fs → Good L line 0 r →
     Good (Any L fs) line 0 (best_of r fs line)
 best_good L r [] line ps h = h
 best_good L r (f ∷ fs) line ps h =
