@@ -2,14 +2,23 @@
 #![tactic(auto)]
 
 use std::env;
+use std::process::ExitCode;
 
-fn main(rt: HostRuntime) -> anyhow::Result<()> {
-    let files: Vec<String> = env::args(&rt)?.skip(1).collect(rt.alloc())?;
+fn run(rt: &HostRuntime) -> anyhow::Result<()> {
+    let files: Vec<String> = env::args(rt)?.skip(1).collect(rt.alloc())?;
     for pair in files.as_slice().chunks(2) {
         if let [game, calls] = pair {
             println!(rt; "# {game} {calls}")?;
         }
-        console::answer(&rt, pair)?;
+        console::answer(rt, pair)?;
     }
     Ok(())
+}
+
+// What goes wrong is told where it happens, so that an error only makes status 1.
+fn main(rt: HostRuntime) -> ExitCode {
+    match run(&rt) {
+        Ok(()) => ExitCode::SUCCESS,
+        Err(_) => ExitCode::FAILURE,
+    }
 }
