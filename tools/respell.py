@@ -48,14 +48,13 @@ def answers(path):
 def is_type(kind, rest):
     if "data" in kind or "record" in kind:
         return True
-    signature = rest
     depth, last = 0, 0
-    for i, ch in enumerate(signature):
+    for i, ch in enumerate(rest):
         depth += ch in "({"
         depth -= ch in ")}"
         if ch == "→" and depth == 0:
             last = i + 1
-    return re.match(r"\s*Type( |$)", signature[last:]) is not None
+    return re.match(r"\s*Type( |$)", rest[last:]) is not None
 
 
 def declared(root):
@@ -98,7 +97,7 @@ def table_of(root):
 def turn_antt(text, rows, made):
     def one(m):
         comment, string, name = m.groups()
-        if string or (comment and not rows):
+        if string:
             return m[0]
         if comment:
             return turn_comment(comment, rows)
@@ -112,19 +111,17 @@ def turn_antt(text, rows, made):
 
 
 def behind_made(text, at):
-    """Whether what stands before this place is a name that Rattle makes: goal. or c., l., g., w. and the first name behind it."""
-    before = re.search(r"(" + TOKEN + r")$", text[:at])
-    return before is not None and before[1] in ("goal", "c", "l", "g", "w", "initial", "fn") or bool(
-        re.search(r"(?<![^\s(){};,])(?:goal|c|l|g|w)$", text[:at])
-    )
+    """Whether the name before this place is one behind which Rattle makes the names: goal, or the record of a place."""
+    before = re.search(TOKEN + "$", text[:at])
+    return before is not None and before[0] in ("goal", "c", "l", "g", "w", "initial", "fn")
 
 
 def of_others(text):
     """The names that a file takes from the toolchain's libraries: those keep their spelling there."""
     found = set()
-    for path, items, alone in re.findall(r"(?m)\buse ((?:Rattle\.(?:std|core)|mathlib|Prim|lib)[\w.+-]*?)(?:\.\{([^}]*)\}|\.([^\s.;{]+);?$)", text):
+    for items, alone in re.findall(r"(?m)\buse (?:Rattle\.(?:std|core)|mathlib|Prim|lib)[\w.+-]*?(?:\.\{([^}]*)\}|\.([^\s.;{]+);?$)", text):
         for item in (items or alone).split(","):
-            found.update(item.split(" as ")[:1] and [w.strip() for w in item.split(" as ")])
+            found.update(word.strip() for word in item.split(" as "))
     return found
 
 
@@ -184,8 +181,6 @@ def main():
         if os.path.isdir(folder):
             os.rename(folder, os.path.join(root, "crates", new))
     write(os.path.join(root, "crates.txt"), lines)
-    with open("/tmp/respelled.tsv", "w", encoding="utf-8") as f:
-        f.writelines(f"{old}\t{new}\n" for old, new in sorted(rows.items()))
 
 
 if __name__ == "__main__":

@@ -1,88 +1,15 @@
-// Tests of call lines, of what they ask, and of command lines. What is expected is worked out by hand from docs/FORMATS.md.
+// Tests of what call lines ask, and of command lines; text_tests has how a line is read. What is expected is worked out by hand from docs/FORMATS.md.
 #![tactic(auto)]
 
 #[cfg(test)]
 mod tests {
-    use rules::{Call, Limits, Move};
+    use rules::Limits;
     use server_commands::{Asked, Fault, Request, read_line, read_request};
     use std::alloc::{AllocError, Global};
     use std::test::Fail;
-    use text::{is_passed_over, read_call, read_number};
-
-    #[test]
-    fn every_form(rt: HostRuntime) {
-        assert_eq!(rt; read_call(b"sit 0"), Ok(Call::Sit(0)));
-        assert_eq!(rt; read_call(b"ticks 5"), Ok(Call::Ticks(5)));
-        assert_eq!(rt; read_call(b"see 2"), Ok(Call::See(2)));
-        assert_eq!(rt; read_call(b"may 3"), Ok(Call::May(3)));
-        let back = Call::Back { table: 1, moves: 2 };
-        assert_eq!(rt; read_call(b"back 1 2"), Ok(back));
-        let played = Move {
-            rule: 2,
-            first: 3,
-            second: 4,
-        };
-        let play = Call::Play {
-            table: 0,
-            player: 1,
-            played,
-        };
-        assert_eq!(rt; read_call(b"play 0 1 2 3 4"), Ok(play));
-        let force = Call::CanForce {
-            table: 5,
-            player: 6,
-            gain: 7,
-            within: 8,
-        };
-        assert_eq!(rt; read_call(b"can force 5 6 7 8"), Ok(force));
-        assert_eq!(rt; read_call(b"can \t force 5 6 7 8"), Ok(force));
-    }
-
-    #[test]
-    fn numbers(rt: HostRuntime) {
-        assert_eq!(rt; read_call(b"see 4294967295"), Ok(Call::See(4294967295)));
-        assert_eq!(rt; read_call(b"see 4294967296"), Err(13));
-        assert_eq!(rt; read_call(b"see 42949672950"), Err(14));
-        assert_eq!(rt; read_call(b"see 000000000000000007"), Ok(Call::See(7)));
-        assert_eq!(rt; read_call(b"\tsee\t7 \t"), Ok(Call::See(7)));
-        assert_eq!(rt; read_call(b"see +7"), Err(4));
-        assert_eq!(rt; read_call(b"see 7x"), Err(5));
-        assert_eq!(rt; read_number(b"0"), Some(0));
-        assert_eq!(rt; read_number(b"0016"), Some(16));
-        assert_eq!(rt; read_number(b"4294967295"), Some(4294967295));
-        assert_eq!(rt; read_number(b"4294967296"), None);
-        assert_eq!(rt; read_number(b""), None);
-        assert_eq!(rt; read_number(b"+3"), None);
-        assert_eq!(rt; read_number(b"3 "), None);
-    }
-
-    #[test]
-    fn places(rt: HostRuntime) {
-        assert_eq!(rt; read_call(b""), Err(0));
-        assert_eq!(rt; read_call(b"   "), Err(3));
-        assert_eq!(rt; read_call(b"s"), Err(1));
-        assert_eq!(rt; read_call(b"sea 1"), Err(2));
-        assert_eq!(rt; read_call(b"sit"), Err(3));
-        assert_eq!(rt; read_call(b"sit "), Err(4));
-        assert_eq!(rt; read_call(b"sits 1"), Err(3));
-        assert_eq!(rt; read_call(b"sit 1 2"), Err(6));
-        assert_eq!(rt; read_call(b"back 0"), Err(6));
-        assert_eq!(rt; read_call(b"canforce 0 1 2 3"), Err(3));
-        assert_eq!(rt; read_call(b"can forced 1"), Err(9));
-        assert_eq!(rt; read_call(b"play 0 1 2 3 4 5"), Err(15));
-        assert_eq!(rt; read_call(b"see 1\r"), Err(5));
-        assert_eq!(rt; read_call(b"\xff\xfe"), Err(0));
-        assert_eq!(rt; read_call(b"ma\xc3\xbf"), Err(2));
-    }
 
     #[test]
     fn lines_passed_over(rt: HostRuntime) {
-        assert!(rt; is_passed_over(b""));
-        assert!(rt; is_passed_over(b" \t "));
-        assert!(rt; is_passed_over(b"# sit 0"));
-        assert!(rt; is_passed_over(b"  #"));
-        assert!(rt; !is_passed_over(b"sit 0 # no comment"));
-        assert!(rt; !is_passed_over(b"\xff"));
         assert!(rt; asks_nothing(b""));
         assert!(rt; asks_nothing(b"\n"));
         assert!(rt; asks_nothing(b"\r\n"));
