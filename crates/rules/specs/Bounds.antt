@@ -86,6 +86,10 @@ good_game g =
 unfoldable pub good_limits : Limits → Bool
 good_limits l = leb l.tables 1024 && (leb l.moves 1000000 && leb l.positions 8192)
 
+-- those of a server for which none are given
+abbrev pub usual_limits : Limits
+usual_limits = record { tables = 16; moves = 1000; positions = 256 }
+
 -- a number that a field of four bytes can carry
 abbrev pub fits_field : ℕ → Bool
 fits_field n = ltb n 4294967296

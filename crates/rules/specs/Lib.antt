@@ -3,3 +3,4 @@ pub mod Play
 pub mod Force
 pub mod Calls
 pub mod Bounds
+pub mod Reasons

@@ -1,6 +1,12 @@
 // The plain types that code and meaning share. What they mean stands in specs/, in this order: Rules, Play, Force, Calls, Bounds.
 #![tactic(auto)]
 
+ghost use Rattle.std.specs.Prelude.{◌≡◌};
+ghost use Rattle.rules.specs.Bounds.{usual_limits};
+ghost use Rattle.rules.specs.Reasons.{refusal_by};
+
+use std::fmt;
+
 // A move: a rule of the game, by its place in the list of rules, and the two numbers that it is played with.
 #[derive(Clone, Copy, PartialEq, Eq, Debug)]
 pub struct Move {
@@ -17,11 +23,70 @@ pub struct Limits {
     pub positions: u32,
 }
 
+impl Default for Limits {
+    ghost is_default = { λ limits. limits ≡ usual_limits };
+
+    fn default() -> Limits {
+        Limits {
+            tables: 16,
+            moves: 1000,
+            positions: 256,
+        }
+    }
+}
+
 // Why something was refused: a number of the closed list in docs/FORMATS.md, and the place that is at fault.
 #[derive(Clone, Copy, PartialEq, Eq, Debug)]
 pub struct Refusal {
     pub number: u32,
     pub place: u32,
+}
+
+impl fmt::Display for Refusal {
+    fn fmt<W: fmt::Write>(&self, f: &mut fmt::Formatter<W>) -> fmt::Result {
+        write!(f, "refused {} at {}", self.number, self.place)
+    }
+}
+
+// Why something is refused: the closed list, by names. specs/Reasons says the number and the place of each.
+#[derive(Clone, Copy, PartialEq, Eq, Debug)]
+pub enum Reason {
+    // bytes are no call: from this place on they cease to be one
+    NoCall(u32),
+    // the server can't do the call: which field is too large for it, or 0
+    NotDone(u32),
+    // bytes are no game
+    NoGame,
+    // a game or limits that no server takes
+    NotGood,
+    // memory that is too short, or not a server's
+    NoMemory,
+    NoTable,
+    TableOver,
+    NotTheirTurn,
+    NotLegal,
+    // as many tables or moves as there may be
+    Full,
+}
+
+impl From<Reason> for Refusal {
+    ghost from_gives = { λ reason refusal. refusal ≡ refusal_by reason };
+
+    fn from(reason: Reason) -> Refusal {
+        let (number, place) = match reason {
+            Reason::NoCall(place) => (1, place),
+            Reason::NotDone(field) => (2, field),
+            Reason::NoGame => (3, 0),
+            Reason::NotGood => (3, 1),
+            Reason::NoMemory => (3, 2),
+            Reason::NoTable => (4, 0),
+            Reason::TableOver => (5, 0),
+            Reason::NotTheirTurn => (6, 1),
+            Reason::NotLegal => (7, 2),
+            Reason::Full => (8, 0),
+        };
+        Refusal { number, place }
+    }
 }
 
 // What can be asked of a server.

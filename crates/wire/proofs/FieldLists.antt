@@ -1,5 +1,5 @@
 -- Fields come back from their bytes, and bytes from the fields that are read from them.
-use Rattle.std.proofs.Common.{◌≡◌, ℕ, zero, suc, ◌+◌, ◌*◌, ◌^◌, ◌<◌, ◌≤◌, true, ltb, List, [], ◌∷◌, ◌++◌, length, get_or, take, drop, sym, refl, ap, ◌∙◌, ⊎_elim, add_assoc, suc-add, zero-add, arith, length-append, length-drop}
+use Rattle.std.proofs.Common.{◌≡◌, ℕ, zero, suc, ◌+◌, ◌*◌, ◌%◌, ◌^◌, ◌<◌, ◌≤◌, true, ltb, List, [], ◌∷◌, ◌++◌, length, get_or, take, drop, sym, refl, ap, ◌∙◌, ⊎_elim, add_assoc, suc-add, zero-add, arith, length-append, length-drop}
 use native.Mathlib.Nat.{pow-succ', pow-zero}
 use Rattle.std.proofs.lemmas.Bool.{and_parts, and_from, ltb-true, lt-ltb, cases_lt}
 use Rattle.std.proofs.lemmas.List.{append_assoc, append-nil, take-append-drop, length-take-le, take_all, take_at, drop_at, drop_all, drop_more, drop-drop, get_or_past}
@@ -157,3 +157,11 @@ three_fields bs i n =
     let eight : i + 4 + 4 ≡ i + 8 = add_assoc i 4 4 in
     let twelve : i + 4 + 4 + 4 ≡ i + 12 = omega arith in
     λ j. field_at bs i ∷ field_at bs (i + 4) ∷ field_at bs (eight j) ∷ fields_at bs (twelve j) n
+
+-- two bytes are the lower half of a field
+pub lower_half :
+    (bs : List ℕ) (i : ℕ) → get_or bs i 0 < 256 → get_or bs (i + 1) 0 < 256 → field_at bs i % 65536 ≡ bytes_value (take 2 (drop i bs))
+unfolding bytes_value
+lower_half bs i a b =
+    let none : bytes_value (take 0 (drop (i + 1 + 1) bs)) ≡ 0 = refl in
+    omega (arith, field_is bs i, value_more bs 1 i, value_more bs 0 (i + 1), none)

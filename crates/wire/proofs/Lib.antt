@@ -17,4 +17,5 @@ pub mod GamesExcess
 pub mod GamesDeep
 pub mod FieldLists
 pub mod CallBytes
+pub mod KindsParts
 pub mod Writing

@@ -1,7 +1,17 @@
 // Numbers of four bytes, the lowest byte first.
-ghost use Rattle.std.specs.Prelude.{◌≡◌, ◌+◌, ◌*◌, slice_index};
+ghost use Rattle.std.specs.Prelude.{◌≡◌, ◌+◌, ◌*◌, ◌%◌, slice_index, slice_set};
 ghost use Rattle.wire.specs.Numbers.{number_bytes};
 ghost use Rattle.wire.specs.Fields.{field_at, fields_bytes, written};
+ghost use Rattle.wire.specs.GamesWalk.{word_at};
+
+// Puts an item at a place, if it is there.
+pub fn put<T: Copy>(items: &mut [T], at: usize, item: T)
+    ensures { items.new ≡ slice_set items.old at item }
+{
+    if at < items.len() {
+        items[at] = item;
+    }
+}
 
 // The byte at a place, 0 where there is none.
 fn byte_at(bytes: &[u8], at: usize) -> u32
@@ -25,6 +35,14 @@ pub fn field_at(bytes: &[u8], at: usize) -> u32
         + 256
             * (byte_at(bytes, at + 1)
                 + 256 * (byte_at(bytes, at + 2) + 256 * byte_at(bytes, at + 3)))
+}
+
+// The number in the two bytes from a place on; bytes that are not there count as 0.
+pub fn two_bytes(bytes: &[u8], at: usize) -> u16
+    ensures value { result ≡ word_at bytes.now at }
+    ensures lowest { result ≡ field_at bytes.now at % 65536 }
+{
+    (field_at(bytes, at) % 65536) as u16
 }
 
 // Writes the four lowest bytes of n from a place on, if there is room for them; else nothing changes.
