@@ -4,51 +4,39 @@ use Rattle.std.proofs.lemmas.List.{get_or_past}
 use Rattle.std.proofs.lemmas.Bool.{lt-ltb, le-ltb, and_left}
 use Rattle.std.proofs.lemmas.Bool.Decides.{nat_tests}
 use Rattle.rules.specs.declared.Move.{Move}
-use Rattle.rules.specs.Rules.{no_rule, rule_at, turn, eval, is_legal, apply, apply_effects}
+use Rattle.rules.specs.Rules.{Position, Game, no_rule, rule_at, turn, eval, is_legal, apply, apply_effects}
 use Rattle.rules.specs.Play.{payoff}
 use Rattle.eval.specs.Memory.{expr_at}
 use Rattle.rows.specs.Layout.{effects_at, game_at}
 use Rattle.rows.specs.Reading.{IsRule}
 use Rattle.rows.specs.declared.read.RuleRow.{RuleRow}
 
--- the bounds that are read are the rule's
-pub first_bound_is : {m : List ℕ} {r : ℕ} {row : RuleRow} → IsRule m r row → row.first_bound ≡ (rule_at (game_at m) r).first_bound
-first_bound_is u = ap (λ w. w.first_bound) u.same
-
-pub second_bound_is : {m : List ℕ} {r : ℕ} {row : RuleRow} → IsRule m r row → row.second_bound ≡ (rule_at (game_at m) r).second_bound
-second_bound_is u = ap (λ w. w.second_bound) u.same
-
-module _ (m p : List ℕ) (v : Move) where
+-- Whether a move is legal.
+module _ (g : Game) (p : Position) (v : Move) where
   -- a move of a rule that is not there, or whose numbers are not below the bounds
-  pub no_such_rule : length (game_at m).rules ≤ v.rule → false ≡ is_legal (game_at m) p v
+  pub no_such_rule : length g.rules ≤ v.rule → false ≡ is_legal g p v
   unfolding is_legal
-  no_such_rule h = sym (and_left _ _ (le-ltb v.rule (length (game_at m).rules) h))
+  no_such_rule h = sym (and_left _ _ (le-ltb v.rule (length g.rules) h))
 
-  pub first_past : {row : RuleRow} → IsRule m v.rule row → row.first_bound ≤ v.first → false ≡ is_legal (game_at m) p v
+  pub first_past : (rule_at g v.rule).first_bound ≤ v.first → false ≡ is_legal g p v
   unfolding is_legal
-  first_past {row} u h =
-      let e = first_bound_is u in
-      grind (arith, nat_tests)
+  first_past h = grind (arith, nat_tests)
 
-  pub second_past : {row : RuleRow} → IsRule m v.rule row → row.second_bound ≤ v.second → false ≡ is_legal (game_at m) p v
+  pub second_past : (rule_at g v.rule).second_bound ≤ v.second → false ≡ is_legal g p v
   unfolding is_legal
-  second_past {row} u h =
-      let e = second_bound_is u in
-      grind (arith, nat_tests)
+  second_past h = grind (arith, nat_tests)
 
   -- any other move is legal where its rule's guard is not 0
-  pub by_guard : {row : RuleRow} {me a : ℕ} → IsRule m v.rule row → v.first < row.first_bound → v.second < row.second_bound
-      → me ≡ turn (game_at m) p → a ≡ eval (expr_at m row.guard) p v.first v.second me → not (eqb a 0) ≡ is_legal (game_at m) p v
+  pub by_guard : {me a : ℕ} → v.rule < length g.rules → v.first < (rule_at g v.rule).first_bound → v.second < (rule_at g v.rule).second_bound
+      → me ≡ turn g p → a ≡ eval (rule_at g v.rule).guard p v.first v.second me → not (eqb a 0) ≡ is_legal g p v
   unfolding is_legal
-  by_guard {row} u hx hy em ea =
-      let ex = first_bound_is u in
-      let ey = second_bound_is u in
-      let eg : expr_at m row.guard ≡ (rule_at (game_at m) v.rule).guard = ap (λ w. w.guard) u.same in
-      let tr : ltb v.rule (length (game_at m).rules) ≡ true = lt-ltb _ _ u.there in
-      let tx : ltb v.first (rule_at (game_at m) v.rule).first_bound ≡ true = lt-ltb _ _ (omega arith) in
-      let ty : ltb v.second (rule_at (game_at m) v.rule).second_bound ≡ true = lt-ltb _ _ (omega arith) in
-      rw (tr, tx, ty, ea, em, eg) refl
+  by_guard hr hx hy em ea =
+      let tr : ltb v.rule (length g.rules) ≡ true = lt-ltb _ _ hr in
+      let tx : ltb v.first (rule_at g v.rule).first_bound ≡ true = lt-ltb _ _ hx in
+      let ty : ltb v.second (rule_at g v.rule).second_bound ≡ true = lt-ltb _ _ hy in
+      rw (tr, tx, ty, ea, em) refl
 
+module _ (m p : List ℕ) (v : Move) where
   -- what a move does
   pub played : {row : RuleRow} {me : ℕ} {q : List ℕ} → IsRule m v.rule row → me ≡ turn (game_at m) p
       → q ≡ apply_effects (effects_at m row.effects_at row.effects) p v.first v.second me → q ≡ apply (game_at m) p v

@@ -4,6 +4,7 @@
 mod cursor;
 mod listing;
 mod moves;
+mod position;
 
 pub use cursor::{is_over, next_move, starts_with_all};
 pub use listing::list_moves;

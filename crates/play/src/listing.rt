@@ -1,19 +1,17 @@
 // The list of all legal moves, written straight into an answer's bytes.
 ghost use Rattle.std.specs.Prelude.{◌≡◌, ◌+◌, ◌*◌, ◌<◌, ◌≤◌, length, OnSome, IfNone};
-ghost use Rattle.rules.specs.Rules as meaning;
 ghost use Rattle.rules.specs.Play.{legal_moves};
 ghost use Rattle.rules.specs.Calls.{listed};
 ghost use Rattle.wire.specs.Fields.{written, room};
 ghost use Rattle.answers.specs.Answers.{answer_bytes};
 ghost use Rattle.rows.specs.Layout.{game_at};
-ghost use Rattle.rows.specs.Reading.{IsRule};
 ghost use Rattle.play.specs.Cursor.{seconds_from, firsts_from};
 ghost use Rattle.play.specs.Listing.{part_listed, Lists};
 
 use crate::moves::turn;
+use crate::position::{Position, Rule};
 use answers::write_move;
-use eval::eval;
-use rows::{RuleRow, read_game, read_rule};
+use rows::read_game;
 use rules::Move;
 use wire::put_field;
 
@@ -24,63 +22,41 @@ const HEAD: usize = 5;
 
 const MOVE_BYTES: usize = 12;
 
-// Lists the legal moves of a rule with one first number, after `before` others. Says how many there are then, or None where they have no room.
-fn list_seconds(
-    rules: &[u32],
-    cells: &[u32],
-    row: RuleRow,
-    me: u32,
-    rule: u32,
-    first: u32,
-    answer: &mut [u8],
-    before: usize,
-) -> Option<usize>
-    requires rule { IsRule rules.now rule row }
-    requires below { first < row.first_bound }
-    requires whose { me ≡ meaning.turn (game_at rules.now) cells.now }
-    requires room { 5 + 12 * before ≤ length answer.old }
-    ensures { Lists (seconds_from (game_at rules.now) cells.now rule first 0) before answer.old answer.new result }
-{
-    let mut count = before;
-    for second in 0..row.second_bound {
-        if eval(rules, row.guard, cells, first, second, me) != 0 {
-            let v = Move {
-                rule,
-                first,
-                second,
-            };
-            let Some(_size) = write_move(answer, HEAD + MOVE_BYTES * count, v) else {
-                return None;
-            };
-            count += 1;
+impl Rule<'_> {
+    // Lists the legal moves with one first number, after `before` others. Says how many there are then, or None where they have no room.
+    fn list_seconds(&self, first: u32, answer: &mut [u8], before: usize) -> Option<usize>
+        requires below { first < self.now.row.first_bound }
+        requires room { 5 + 12 * before ≤ length answer.old }
+        ensures { Lists (seconds_from (game_at self.now.at.rules.now) self.now.at.cells.now self.now.number first 0)
+            before answer.old answer.new result }
+    {
+        let mut count = before;
+        for second in 0..self.row.second_bound {
+            if self.allows(first, second) {
+                let found = Move {
+                    rule: self.number,
+                    first,
+                    second,
+                };
+                write_move(answer, HEAD + MOVE_BYTES * count, found)?;
+                count += 1;
+            }
         }
+        Some(count)
     }
-    Some(count)
-}
 
-// The same of a rule with any first number.
-fn list_firsts(
-    rules: &[u32],
-    cells: &[u32],
-    row: RuleRow,
-    me: u32,
-    rule: u32,
-    answer: &mut [u8],
-    before: usize,
-) -> Option<usize>
-    requires rule { IsRule rules.now rule row }
-    requires whose { me ≡ meaning.turn (game_at rules.now) cells.now }
-    requires room { 5 + 12 * before ≤ length answer.old }
-    ensures { Lists (firsts_from (game_at rules.now) cells.now rule 0) before answer.old answer.new result }
-{
-    let mut count = before;
-    for first in 0..row.first_bound {
-        let Some(more) = list_seconds(rules, cells, row, me, rule, first, answer, count) else {
-            return None;
-        };
-        count = more;
+    // The same with any first number.
+    fn list_firsts(&self, answer: &mut [u8], before: usize) -> Option<usize>
+        requires room { 5 + 12 * before ≤ length answer.old }
+        ensures { Lists (firsts_from (game_at self.now.at.rules.now) self.now.at.cells.now self.now.number 0)
+            before answer.old answer.new result }
+    {
+        let mut count = before;
+        for first in 0..self.row.first_bound {
+            count = self.list_seconds(first, answer, count)?;
+        }
+        Some(count)
     }
-    Some(count)
 }
 
 // The same of all rules, after no others.
@@ -89,15 +65,10 @@ fn list_rules(rules: &[u32], cells: &[u32], answer: &mut [u8]) -> Option<usize>
     ensures { Lists (legal_moves (game_at rules.now) cells.now) 0 answer.old answer.new result }
 {
     let me = turn(rules, cells);
-    let mut count: usize = 0;
-    for rule in 0..read_game(rules).rules {
-        let Some(row) = read_rule(rules, rule) else {
-            return None;
-        };
-        let Some(more) = list_firsts(rules, cells, row, me, rule, answer, count) else {
-            return None;
-        };
-        count = more;
+    let position = Position { rules, cells, me };
+    let mut count = 0;
+    for number in 0..read_game(rules).rules {
+        count = position.rule(number)?.list_firsts(answer, count)?;
     }
     Some(count)
 }
@@ -113,9 +84,7 @@ pub fn list_moves(rules: &[u32], cells: &[u32], answer: &mut [u8]) -> Option<usi
     if answer.len() < HEAD {
         return None;
     }
-    let Some(count) = list_rules(rules, cells, answer) else {
-        return None;
-    };
+    let count = list_rules(rules, cells, answer)?;
     answer[0] = LIST;
     put_field(answer, 1, count);
     Some(HEAD + MOVE_BYTES * count)

@@ -4,6 +4,7 @@ ghost use Rattle.rules.specs.Rules as meaning;
 ghost use Rattle.rules.specs.Play as meaning-of-play;
 ghost use Rattle.rows.specs.Layout.{game_at};
 
+use crate::position::Position;
 use eval::{eval, word_at};
 use rows::{apply_effects, read_game, read_rule};
 use rules::Move;
@@ -12,45 +13,38 @@ use rules::Move;
 pub fn turn(rules: &[u32], cells: &[u32]) -> u32
     ensures { result ≡ meaning.turn (game_at rules.now) cells.now }
 {
-    let players = read_game(rules).players;
-    if players == 0 {
-        return 0;
-    }
-    word_at(cells, 0) % players
+    word_at(cells, 0)
+        .checked_rem(read_game(rules).players)
+        .unwrap_or(0)
 }
 
 // Whether a move is legal.
 pub fn is_legal(rules: &[u32], cells: &[u32], played: Move) -> bool
     ensures { result ≡ meaning.is_legal (game_at rules.now) cells.now played }
 {
-    let Some(row) = read_rule(rules, played.rule) else {
+    let me = turn(rules, cells);
+    let Some(rule) = (Position { rules, cells, me }).rule(played.rule) else {
         return false;
     };
-    if played.first >= row.first_bound {
+    if played.first >= rule.row.first_bound || played.second >= rule.row.second_bound {
         return false;
     }
-    if played.second >= row.second_bound {
-        return false;
-    }
-    let me = turn(rules, cells);
-    eval(rules, row.guard, cells, played.first, played.second, me) != 0
+    rule.allows(played.first, played.second)
 }
 
 // A move happens, legal or not: its rule's effects do. Where the game has no such rule, nothing happens.
 pub fn apply(rules: &[u32], cells: &mut [u32], played: Move)
     ensures { cells.new ≡ meaning.apply (game_at rules.now) cells.old played }
 {
-    let Some(row) = read_rule(rules, played.rule) else {
-        return;
-    };
-    let me = turn(rules, cells);
-    apply_effects(rules, row, cells, played.first, played.second, me);
+    if let Some(row) = read_rule(rules, played.rule) {
+        let me = turn(rules, cells);
+        apply_effects(rules, row, cells, played.first, played.second, me);
+    }
 }
 
 // What a player has gained.
 pub fn payoff(rules: &[u32], cells: &[u32], player: u32) -> u32
     ensures { result ≡ meaning-of-play.payoff (game_at rules.now) cells.now player }
 {
-    let game = read_game(rules);
-    eval(rules, game.payoff, cells, 0, 0, player)
+    eval(rules, read_game(rules).payoff, cells, 0, 0, player)
 }

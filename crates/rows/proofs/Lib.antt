@@ -1,4 +1,4 @@
-mod Reading
+pub mod Reading
 pub mod LoadSize
 mod LoadPlaced
 mod LoadRule

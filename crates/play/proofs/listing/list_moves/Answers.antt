@@ -1,4 +1,4 @@
-use Rattle.std.proofs.Common.{arith}
+use Rattle.std.proofs.Common.{◌∙◌, arith}
 use Rattle.rules.specs.Play.{legal_moves}
 use Rattle.rows.specs.Layout.{game_at}
 use Rattle.play.proofs.Writes.{refused, nothing_written, some_written, all_fits, all_written}
@@ -11,16 +11,18 @@ returns-then-answer-lt-HEAD c = record {
   part = nothing_written c.args.answer.now (legal_moves (game_at c.args.rules.now) c.args.cells.now) (omega arith);
 }
 
-pub returns-in_default : goal.returns-in_default
-returns-in_default c = record {
-  size = refused c.args.answer.now (legal_moves (game_at c.args.rules.now) c.args.cells.now) (omega (arith, c.in_default.ensures.too_many));
-  bytes = tt;
-  part = some_written c.args.answer.now (legal_moves (game_at c.args.rules.now) c.args.cells.now) c.in_default.ensures;
-}
+pub returns-in_err-count-clause-size : goal.returns-in_err-count-clause-size
+returns-in_err-count-clause-size c =
+    c.from_residual.ensures
+    ∙ refused c.args.answer.now (legal_moves (game_at c.args.rules.now) c.args.cells.now) (omega (arith, c.in_err-count.ensures.too_many))
+
+pub returns-in_err-count-clause-part : goal.returns-in_err-count-clause-part
+returns-in_err-count-clause-part c =
+    rw c.from_residual.ensures (some_written c.args.answer.now (legal_moves (game_at c.args.rules.now) c.args.cells.now) c.in_err-count.ensures)
 
 pub returns : goal.returns
 returns c = record {
-  size = all_fits c.args.answer.now (legal_moves (game_at c.args.rules.now) c.args.cells.now) c.in-Some.ensures;
-  bytes = all_written c.args.answer.now (legal_moves (game_at c.args.rules.now) c.args.cells.now) c.in-Some.ensures c.put_field.ensures;
+  size = all_fits c.args.answer.now (legal_moves (game_at c.args.rules.now) c.args.cells.now) c.in_ok-count.ensures;
+  bytes = all_written c.args.answer.now (legal_moves (game_at c.args.rules.now) c.args.cells.now) c.in_ok-count.ensures c.put_field.ensures;
   part = tt;
 }

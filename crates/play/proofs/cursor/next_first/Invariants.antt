@@ -1,8 +1,0 @@
-use Rattle.std.proofs.Common.{◌≡◌}
-use Rattle.rows.specs.Layout.{game_at}
-use Rattle.play.specs.Cursor.{firsts_from}
-use Rattle.play.proofs.cursor.next_first.Given as goal
-
--- no move so far: the moves that are left are all of them
-abbrev pub invariant-loop-first : goal.invariant-loop-first
-invariant-loop-first l = firsts_from (game_at l.rules) l.cells l.rule l.first ≡ firsts_from (game_at l.rules) l.cells l.rule l.from
