@@ -5,7 +5,7 @@ use Rattle.std.proofs.lemmas.Nat.{mul-le}
 use Rattle.tables.specs.declared.plan.Plan.{Plan}
 use Rattle.tables.specs.declared.acting.Seat.{Seat}
 use Rattle.tables.specs.Layout.{plan_of}
-use Rattle.tables.specs.Inner.{Roomy}
+use Rattle.tables.proofs.Planned.{Roomy}
 use Rattle.tables.specs.Acting.{seat_by, seat_of}
 use Rattle.tables.proofs.Planned.{planned}
 use Rattle.session.proofs.Starting.{chosen, never}

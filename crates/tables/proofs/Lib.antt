@@ -3,6 +3,7 @@ mod Answering
 mod Bounded
 mod Chains
 mod Choosing
+mod Refusals
 mod Lists
 mod Moved
 mod Opened

@@ -1,11 +1,8 @@
 -- What memory's header says of it.
-use Rattle.std.proofs.Common.{◌≡◌, ℕ, ◌+◌, ◌<◌, ◌≤◌, true, false, ◌&&◌, eqb, leb, List, length, get_or, Some, None, sym, arith}
+use Rattle.std.proofs.Common.{◌≡◌, ℕ, ◌<◌, ◌≤◌, true, false, ◌&&◌, eqb, leb, List, length, get_or, Some, None, sym}
 use Rattle.std.proofs.lemmas.Bool.{and_from, and_left, and_right, and_parts, cond-true, cond-false, le-leb, lt-leb, leb-true, eq-eqb, ne_eqb}
 use Rattle.tables.specs.declared.plan.Plan.{Plan}
-use Rattle.tables.specs.Layout.{mark, record_place, state_words, plan_in, good_plan, plan_of}
-use Rattle.tables.specs.Inner.{Roomy, InState}
-use Rattle.std.proofs.lemmas.Nat.{mul-le}
-use Rattle.tables.proofs.Regions.{stride}
+use Rattle.tables.specs.Layout.{mark, state_words, plan_in, good_plan, plan_of}
 use Rattle.tables.proofs.Choosing.{chosen}
 
 pub no_header : (w : List ℕ) → length w < 16 → None ≡ plan_of w
@@ -25,6 +22,16 @@ pub a_plan : (w : List ℕ) → 16 ≤ length w → get_or w 0 0 ≡ mark → tr
 unfolding plan_of
 a_plan w l m h =
     sym (cond-true _ _ _ (and_from (leb 16 (length w) && eqb (get_or w 0 0) mark) (good_plan (plan_in w) (length w)) (and_from _ _ (le-leb _ _ l) (eq-eqb _ _ m)) (sym h)))
+
+-- the sizes of a plan, and memory that is long enough for it
+pub record Roomy (p : Plan) (size : ℕ) : Type 0 where
+  pub few_tables : p.tables ≤ 1024
+  pub few_moves : p.moves ≤ 1000000
+  pub few_cells : p.cells ≤ 256
+  pub few_players : p.players ≤ 4
+  pub may_sit : p.seated ≤ p.tables
+  pub may_play : p.played ≤ p.moves
+  pub room : state_words p.cells p.tables p.moves ≤ size
 
 roomy_by : (p : Plan) (size : ℕ) → good_plan p size ≡ true → Roomy p size
 roomy_by p size h =
@@ -55,10 +62,3 @@ planned w p e =
     let a = chosen ((leb 16 (length w) && eqb (get_or w 0 0) mark) && good_plan (plan_in w) (length w)) (plan_in w) p e in
     let b = and_parts (leb 16 (length w) && eqb (get_or w 0 0) mark) (good_plan (plan_in w) (length w)) a.0 in
     record { is = a.1; roomy = rw a.1 (roomy_by (plan_in w) (length w) b.1) }
-
--- where a record stands, of a table that there may be
-pub in_state : (p : Plan) (t a size : ℕ) → Roomy p size → t < p.tables → a ≡ record_place p.cells t → InState p t a size
-in_state p t a size r h e =
-    let s = stride p.cells t p.tables h in
-    let m = mul-le t (p.cells + 9) 1024 265 (omega arith) (omega arith) in
-    record { place = e; inside = omega arith; low = omega arith }

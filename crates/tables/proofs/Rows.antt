@@ -1,5 +1,6 @@
 -- The record of a new table.
-use Rattle.std.proofs.Common.{◌≡◌, ℕ, zero, suc, ◌+◌, ◌-◌, ◌<◌, ◌≤◌, Bool, not, eqb, List, [], ◌∷◌, ◌++◌, length, get_or, take, drop, set, replicate, sym, refl, ap, ◌∙◌, append_assoc, add-one, arith, length-append, length-drop, length-take}
+use Rattle.std.proofs.Common.{◌≡◌, ℕ, zero, suc, ◌+◌, ◌-◌, ◌<◌, ◌≤◌, Bool, not, eqb, List, [], ◌∷◌, ◌++◌, length, get_or, take, drop, set, replicate, sym, refl, ap, ◌∙◌, append_assoc, add-one, arith, length-append, length-drop, length-take, true, false}
+use mir.Val.{bool_byte}
 use borrow.Rule.Slice.PartMut.{put_mid}
 use lib.ListN.{length-replicate}
 use Rattle.std.proofs.lemmas.List.{length_push, take_all, drop_all, take_at, drop_at, take_more_set, append-nil}
@@ -73,6 +74,11 @@ three_parts a m n k j xs ys zs us l e f ly lz lu =
     rw (inner, front, back, append-nil) (append_assoc ys zs us)
 
 -- the record, as the code writes it
+-- a truth as a word
+pub truth_word : (b : Bool) {n : ℕ} → n ≡ bool_byte b → n ≡ flag b
+truth_word true e = e
+truth_word false e = e
+
 pub record_written :
     (g : Game) (n k j a m players ticks at f h : ℕ) (over : Bool) (xs ys zs us : List ℕ) → length xs ≡ n + 9 → players ≤ 4 → k ≡ n → j ≡ 5 → a ≡ n → m ≡ 4
     → ys ≡ start_cells g (length (take k xs)) → over ≡ is_over g (take k (ys ++ drop k xs))

@@ -1,7 +1,7 @@
 // What stands in a table's record and in a move's entry, and how it is written.
-ghost use Rattle.std.specs.Prelude.{◌≡◌, ◌+◌, ◌-◌, ◌≤◌, ◌++◌, length, replicate, slice_set};
+ghost use Rattle.std.specs.Prelude.{◌≡◌, ◌+◌, ◌-◌, ◌≤◌, ◌++◌, length, replicate};
 ghost use Rattle.rows.specs.Layout.{game_at};
-ghost use Rattle.tables.specs.Changes.{flag, start_cells, new_record, advanced, with_entry};
+ghost use Rattle.tables.specs.Changes.{start_cells, new_record, advanced, with_entry};
 
 use crate::plan::RECORD;
 use play::{apply, is_over};
@@ -39,13 +39,6 @@ fn put_clocks(clocks: &mut [u32], players: usize, ticks: u32)
     clocks[players..4].fill(0);
 }
 
-// A truth as a word, 1 or 0.
-fn word_of(b: bool) -> u32
-    ensures { result ≡ flag b }
-{
-    if b { 1 } else { 0 }
-}
-
 // The record of a new table, at place `at` of the state.
 pub(crate) fn put_record(
     rules: &[u32],
@@ -65,8 +58,8 @@ pub(crate) fn put_record(
     let over = is_over(rules, &row[0..cells]);
     put_clocks(&mut row[cells..cells + CLOCKED], players, ticks);
     let rest = [
-        word_of(ticks != 0),
-        word_of(over),
+        u32::from(ticks != 0),
+        u32::from(over),
         0,
         0,
         (at + cells + FIRST) as u32,
@@ -83,18 +76,9 @@ pub(crate) fn advance(rules: &[u32], row: &mut [u32], cells: usize, played: Move
     let count = row[cells + COUNT].saturating_add(1);
     apply(rules, &mut row[0..cells], played);
     let over = is_over(rules, &row[0..cells]);
-    row[cells + END] = word_of(over);
+    row[cells + END] = u32::from(over);
     row[cells + COUNT] = count;
     row[cells + LINK] = last;
-}
-
-// Word `i` gets `x`; where no such word is in memory, nothing happens.
-pub(crate) fn put_word(words: &mut [u32], i: usize, x: u32)
-    ensures { words.new ≡ slice_set words.old i x }
-{
-    if i < words.len() {
-        words[i] = x;
-    }
 }
 
 // The words of an entry, but for the last.
