@@ -3,6 +3,7 @@
 
 ghost use Rattle.std.specs.Prelude.{◌≡◌};
 ghost use Rattle.rules.specs.Bounds.{usual_limits};
+ghost use Rattle.rules.specs.Calls.{refusal_place};
 ghost use Rattle.rules.specs.Reasons.{refusal_by};
 
 use std::fmt;
@@ -117,4 +118,21 @@ pub enum Call {
         gain: u32,
         within: u32,
     },
+}
+
+// The deepest search that a call may ask for.
+const DEEPEST: u32 = 64;
+
+impl Call {
+    // Why a server refuses this call that can't do it: a search that is too deep is so by its last field.
+    pub fn not_done(self) -> Refusal
+        ensures number { result.number ≡ 2 }
+        ensures place { result.place ≡ refusal_place self 2 }
+    {
+        let field = match self {
+            Call::CanForce { within, .. } => if within > DEEPEST { 3 } else { 0 },
+            _ => 0,
+        };
+        Reason::NotDone(field).into()
+    }
 }

@@ -3,7 +3,6 @@ pub mod Readiness
 pub mod Runs
 pub mod Asking
 pub mod Openings
-pub mod Refusing
 pub mod Acting
 pub mod Seats
 pub mod Served

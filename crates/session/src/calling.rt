@@ -1,7 +1,6 @@
 // A call in bytes is answered in bytes.
 ghost use Rattle.std.specs.Prelude.{◌≡◌, true, false, length};
 ghost use Rattle.rules.specs.declared.Call.TheVariants.{See, May};
-ghost use Rattle.rules.specs.Calls.{refused, refusal_place};
 ghost use Rattle.wire.specs.Fields.{written, room};
 ghost use Rattle.answers.specs.Answers.{answer_bytes};
 ghost use Rattle.tables.specs.Acting.{told as told-as};
@@ -12,7 +11,7 @@ ghost use Rattle.session.specs.Inner.{Writes, Acts};
 use answers::{write_list_head, write_number, write_refusal, write_shown};
 use eval::word_at;
 use play::{list_moves, turn};
-use rules::{Call, Refusal};
+use rules::{Call, Reason, Refusal};
 use tables::{find_table, play, read_plan, sit};
 use wire::read_call;
 
@@ -22,9 +21,6 @@ const RULES_SIZE: usize = 6;
 const SCRATCH_SIZE: usize = 7;
 
 const ANSWER_SIZE: usize = 8;
-
-// The deepest search that a call may ask for.
-const DEEPEST: u32 = 64;
 
 // Whether header and lengths are those of an opening.
 fn is_ready(rules: &[u32], state: &[u32], scratch: &[u32], answer: &[u8]) -> bool
@@ -89,18 +85,6 @@ fn list(rules: &[u32], state: &[u32], table: u32, answer: &mut [u8]) -> Option<u
     }
 }
 
-// Why a call is refused that this server can't do.
-fn refusal_of(call: Call) -> Refusal
-    ensures number { result.number ≡ 2 }
-    ensures place { result.place ≡ refusal_place call 2 }
-{
-    let place = match call {
-        Call::CanForce { within, .. } => if within > DEEPEST { 3 } else { 0 },
-        _ => 0,
-    };
-    Refusal { number: 2, place }
-}
-
 // A call does what it does to the state, and its answer is written.
 fn act(rules: &[u32], state: &mut [u32], call: Call, answer: &mut [u8]) -> Option<usize>
     ensures { Acts rules.now state.old answer.old call state.new answer.new result }
@@ -120,12 +104,10 @@ fn act(rules: &[u32], state: &mut [u32], call: Call, answer: &mut [u8]) -> Optio
         }
         Call::See(table) => show(rules, state, table, answer),
         Call::May(table) => list(rules, state, table, answer),
-        Call::Ticks(_n) => write_refusal(answer, refusal_of(call)),
-        Call::Back {
-            table: _t,
-            moves: _n,
-        } => write_refusal(answer, refusal_of(call)),
-        Call::CanForce { .. } => write_refusal(answer, refusal_of(call)),
+        Call::Ticks(_) | Call::Back { .. } | Call::CanForce { .. } => write_refusal(
+            answer,
+            call.not_done(),
+        ),
     }
 }
 
@@ -147,13 +129,7 @@ pub fn call(
     }
     let size = match read_call(call) {
         Ok(asked) => act(rules, state, asked, answer),
-        Err(place) => write_refusal(
-            answer,
-            Refusal {
-                number: 1,
-                place: place as u32,
-            },
-        ),
+        Err(place) => write_refusal(answer, Reason::NoCall(place as u32).into()),
     };
     size.unwrap_or(0)
 }

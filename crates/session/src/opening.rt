@@ -2,45 +2,26 @@
 ghost use Rattle.std.specs.Prelude.{◌≡◌};
 ghost use Rattle.session.specs.Opening.{lent, needed, long_enough, Opens};
 
-use rules::{Limits, Refusal};
+use rules::{Limits, Reason, Refusal};
 use tables::{Sizes, open_tables, sizes_for};
 use wire::check_game;
-
-const TOO_LARGE: Refusal = Refusal {
-    number: 3,
-    place: 1,
-};
-
-const TOO_SHORT: Refusal = Refusal {
-    number: 3,
-    place: 2,
-};
 
 // How much memory a server with these limits asks for, for the game that bytes are.
 pub fn needs(limits: Limits, game: &[u8]) -> Result<Sizes, Refusal>
     ensures { result ≡ needed limits game.now }
 {
     let size = check_game(game)?;
-    let Some(sizes) = sizes_for(limits, size) else {
-        return Err(TOO_LARGE);
-    };
-    Ok(sizes)
+    Ok(sizes_for(limits, size).ok_or(Reason::NotGood)?)
 }
 
 // Whether each slice is as long as it has to be.
 fn are_long(sizes: Sizes, rules: &[u32], state: &[u32], scratch: &[u32], answer: &[u8]) -> bool
     ensures { result ≡ long_enough sizes (lent rules.now state.now scratch.now answer.now) }
 {
-    if rules.len() < sizes.rules {
-        return false;
-    }
-    if state.len() < sizes.state {
-        return false;
-    }
-    if scratch.len() < sizes.scratch {
-        return false;
-    }
-    sizes.answer <= answer.len()
+    sizes.rules <= rules.len()
+        && sizes.state <= state.len()
+        && sizes.scratch <= scratch.len()
+        && sizes.answer <= answer.len()
 }
 
 // Opens a server. Refused by 3, at 0 for bytes that are no game, at 1 for a game or limits that are not good, at 2 for a slice that is too short;
@@ -59,7 +40,7 @@ pub fn open(
 {
     let sizes = needs(limits, game)?;
     if !are_long(sizes, rules, state, scratch, answer) {
-        return Err(TOO_SHORT);
+        return Err(Reason::NoMemory.into());
     }
     let size = rows::load(game, rules)?;
     open_tables(limits, size, state);

@@ -3,7 +3,7 @@ mod Answering
 mod Bounded
 mod Chains
 mod Choosing
-mod Refusals
+pub mod Refusals
 mod Lists
 mod Moved
 mod Opened

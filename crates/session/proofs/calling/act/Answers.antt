@@ -1,4 +1,5 @@
-use Rattle.std.proofs.Common.{◌≡◌, sym, ap, ◌∙◌, subst, arith}
+use Rattle.std.proofs.Common.{◌≡◌, sym, ap, ◌∙◌, subst, ⊎_elim, arith}
+use Rattle.rules.specs.declared.Call.{Call}
 use Rattle.rules.specs.Calls.{refusal_place}
 use Rattle.session.specs.Inner.{Acts}
 use Rattle.session.proofs.Acting.{sits, plays, changes_nothing, see_still, may_still, no_ticks, no_back, no_force}
@@ -28,19 +29,14 @@ returns-in-May c =
 
 pub returns-in-Ticks : goal.returns-in-Ticks
 returns-in-Ticks c =
-    subst (λ x. Acts c.args.rules.now c.args.state.now c.args.answer.now x c.args.state.now c.write_refusal.new.answer c.write_refusal.result) (sym c.in-Ticks.is)
-    (no_ticks c.args.rules.now c.args.state.now c.args.answer.now c.write_refusal.new.answer c.write_refusal.result c.refusal_of.result c.refusal_of.ensures.number c.in-Ticks._n
-    c.refusal_of.ensures.place c.write_refusal.ensures.size c.write_refusal.ensures.bytes)
-
-pub returns-in-Back : goal.returns-in-Back
-returns-in-Back c =
-    subst (λ x. Acts c.args.rules.now c.args.state.now c.args.answer.now x c.args.state.now c.write_refusal-in-Back.new.answer c.write_refusal-in-Back.result) (sym c.in-Back.is)
-    (no_back c.args.rules.now c.args.state.now c.args.answer.now c.write_refusal-in-Back.new.answer c.write_refusal-in-Back.result c.refusal_of-in-Back.result c.refusal_of-in-Back.ensures.number c.in-Back._t c.in-Back._n
-    c.refusal_of-in-Back.ensures.place c.write_refusal-in-Back.ensures.size c.write_refusal-in-Back.ensures.bytes)
-
-pub returns-in-CanForce : goal.returns-in-CanForce
-returns-in-CanForce c =
-    let at : c.refusal_of-in-CanForce.result.place ≡ refusal_place c.args.call 2 = c.refusal_of-in-CanForce.ensures.place in
-    subst (λ x. Acts c.args.rules.now c.args.state.now c.args.answer.now x c.args.state.now c.write_refusal-in-CanForce.new.answer c.write_refusal-in-CanForce.result) (sym c.in-CanForce.is)
-    (no_force c.args.rules.now c.args.state.now c.args.answer.now c.write_refusal-in-CanForce.new.answer c.write_refusal-in-CanForce.result c.refusal_of-in-CanForce.result c.refusal_of-in-CanForce.ensures.number c.in-CanForce.table c.in-CanForce.player c.in-CanForce.gain c.in-CanForce.within
-    (at ∙ ap (λ x. refusal_place x 2) c.in-CanForce.is) c.write_refusal-in-CanForce.ensures.size c.write_refusal-in-CanForce.ensures.bytes)
+    let still : Call → Type 0 = λ x. Acts c.args.rules.now c.args.state.now c.args.answer.now x c.args.state.now c.write_refusal.new.answer c.write_refusal.result in
+    let place = λ (x : Call) (e : c.args.call ≡ x). c.not_done.ensures.place ∙ ap (λ y. refusal_place y 2) e in
+    ⊎_elim
+    (λ (n, e). subst still (sym e) (no_ticks c.args.rules.now c.args.state.now c.args.answer.now c.write_refusal.new.answer c.write_refusal.result
+    c.not_done.result c.not_done.ensures.number n (place _ e) c.write_refusal.ensures.size c.write_refusal.ensures.bytes))
+    (⊎_elim
+    (λ (t, n, e). subst still (sym e) (no_back c.args.rules.now c.args.state.now c.args.answer.now c.write_refusal.new.answer c.write_refusal.result
+    c.not_done.result c.not_done.ensures.number t n (place _ e) c.write_refusal.ensures.size c.write_refusal.ensures.bytes))
+    (λ (t, m, k, d, e). subst still (sym e) (no_force c.args.rules.now c.args.state.now c.args.answer.now c.write_refusal.new.answer c.write_refusal.result
+    c.not_done.result c.not_done.ensures.number t m k d (place _ e) c.write_refusal.ensures.size c.write_refusal.ensures.bytes)))
+    c.in-Ticks.is

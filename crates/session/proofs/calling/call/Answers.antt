@@ -28,6 +28,6 @@ returns c =
           w.act-size.ensures)
       | in-Err w ↦
           misread c.args.rules.now c.args.state.now c.args.scratch.now c.args.answer.now c.args.call.now c.match-read_call.state c.match-read_call.answer
-          c.unwrap_or.result c.match-read_call.size c.unwrap_or.ensures c.if-not-is_ready.ensures long fits w.in-Err.place w.in-Err.ensures w.state-is (w.size-is ∙ w.write_refusal-size.ensures.size)
-          (w.answer-is ∙ w.write_refusal-size.ensures.bytes)
+          c.unwrap_or.result c.match-read_call.size c.unwrap_or.ensures c.if-not-is_ready.ensures long fits w.in-Err.place w.in-Err.ensures w.state-is (rw w.into.ensures at (w.size-is ∙ w.write_refusal-size.ensures.size))
+          (rw w.into.ensures at (w.answer-is ∙ w.write_refusal-size.ensures.bytes))
     ]

@@ -13,8 +13,8 @@ returns-in_err-sizes c =
 pub returns-then-not-are_long : goal.returns-then-not-are_long
 returns-then-not-are_long c =
     let m : Lent = lent c.args.rules.now c.args.state.now c.args.scratch.now c.args.answer.now in
-    refuses c.args.limits c.args.game.now m _
-    (too_short c.args.limits c.args.game.now m c.in_ok-sizes.sizes c.in_ok-sizes.ensures (sym c.if-not-are_long.ensures))
+    rw c.into.ensures (refuses c.args.limits c.args.game.now m _
+    (too_short c.args.limits c.args.game.now m c.in_ok-sizes.sizes c.in_ok-sizes.ensures (sym c.if-not-are_long.ensures)))
 
 pub returns-in_err-size : goal.returns-in_err-size
 returns-in_err-size c =

@@ -1,4 +1,4 @@
--- A call that the server can't do is refused by 2.
+-- Which field of a call a refusal by 2 is about.
 use Rattle.std.proofs.Common.{◌≡◌, ℕ, ◌<◌, ◌≤◌, refl, arith}
 use Rattle.std.proofs.lemmas.Bool.Decides.{nat_tests}
 use Rattle.rules.specs.declared.Call.{Call}
