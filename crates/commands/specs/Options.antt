@@ -1,10 +1,10 @@
 -- What the words of a command line ask for. Assumes nothing: these are definitions.
-use Rattle.std.specs.Prelude.{ℕ, ◌+◌, Bool, true, false, cond, ◌&&◌, List, [], ◌∷◌, length, Some, None, Ok, Err, codes, Option, Result, ◌==◌, nat_lt, slice_index}
+use Rattle.std.specs.Prelude.{ℕ, Bool, true, false, cond, ◌&&◌, List, length, Some, None, Ok, Err, codes, Option, Result, ◌==◌, nat_lt, slice_index}
 use Rattle.std.specs.Str.{bytes_eq}
-use Rattle.rules.specs.declared.Limits.{Limits}
 use Rattle.text.specs.Grammar.{number_of}
-use Rattle.commands.specs.declared.options.Limit.{Limit}
-use Rattle.commands.specs.declared.options.Limit.TheVariants.{Tables, Moves, Positions}
+use Rattle.commands.specs.Faults.{and_then, taken}
+use Rattle.rules.specs.declared.Limit.TheVariants.{Tables, Moves, Positions}
+use Rattle.rules.specs.Bounds.{with_limit, usual_limits}
 use Rattle.commands.specs.declared.options.Kind.{Kind}
 use Rattle.commands.specs.declared.options.Kind.TheVariants as kind
 use Rattle.commands.specs.declared.options.Given.{Given}
@@ -25,15 +25,6 @@ word_kind w =
     (cond (bytes_eq w (codes "--moves")) (kind.Number Moves)
     (cond (bytes_eq w (codes "--positions")) (kind.Number Positions)
     (cond (begins_as_option w) kind.Unknown kind.File))))
-
-abbrev pub with_limit : Limits → Limit → ℕ → Limits
-with_limit l Tables n = record { tables = n; moves = l.moves; positions = l.positions }
-with_limit l Moves n = record { tables = l.tables; moves = n; positions = l.positions }
-with_limit l Positions n = record { tables = l.tables; moves = l.moves; positions = n }
-
-abbrev pub and_then : {X Y : Type 0} → Result X Fault → (X → Result Y Fault) → Result Y Fault
-and_then (Ok x) f = f x
-and_then (Err e) f = Err e
 
 abbrev pub by_option : {X Y : Type 0} → Option X → Y → (X → Y) → Y
 by_option None y f = y
@@ -65,13 +56,9 @@ asked g =
     cond g.help (Ok request.Help)
     (by_option g.awaited (by_option g.game (Err MissingGame) (λ i. Ok (request.Run g.limits i g.calls))) (λ _. Err MissingNumber))
 
-unfoldable pub with_words : Given → List (List ℕ) → ℕ → Result Request Fault
-with_words g [] i = asked g
-with_words g (w ∷ ws) i = and_then (with_word g w i) (λ h. with_words h ws (i + 1))
-
--- limits unless others are given: 16 tables, 1000 moves, 256 positions
+-- unless others are given: 16 tables, 1000 moves, 256 positions
 abbrev pub nothing_given : Given
-nothing_given = record { help = false; limits = record { tables = 16; moves = 1000; positions = 256 }; awaited = None; game = None; calls = None }
+nothing_given = record { help = false; limits = usual_limits; awaited = None; game = None; calls = None }
 
 unfoldable pub request_of : List (List ℕ) → Result Request Fault
-request_of ws = with_words nothing_given ws 0
+request_of ws = and_then (taken with_word nothing_given ws 0) asked

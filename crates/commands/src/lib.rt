@@ -5,4 +5,4 @@ mod lines;
 mod options;
 
 pub use lines::{Reply, line_call_means, reply_to};
-pub use options::{Fault, Request, read_request};
+pub use options::{Fault, Given, Request, TakesWords, read_request, take_words};

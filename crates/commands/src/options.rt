@@ -1,8 +1,10 @@
 // The words of a command line.
-ghost use Rattle.std.specs.Prelude.{◌≡◌, map, string_bytes};
-ghost use Rattle.commands.specs.Options.{begins_as_option, word_kind, with_limit, with_kind, with_file, with_word, asked, request_of};
+ghost use Rattle.std.specs.Prelude.{◌≡◌, ℕ, List, Result, map, string_bytes};
+ghost use Rattle.commands.specs.declared.options.Fault.{Fault};
+ghost use Rattle.commands.specs.Faults.{taken};
+ghost use Rattle.commands.specs.Options.{word_kind, nothing_given, with_kind, with_file, with_word, asked, request_of};
 
-use rules::Limits;
+use rules::{Limit, Limits};
 
 // What is asked for. A file is given by the place of its word.
 #[derive(Clone, Copy, PartialEq, Eq, Debug)]
@@ -26,13 +28,6 @@ pub enum Fault {
 }
 
 #[derive(Clone, Copy)]
-enum Limit {
-    Tables,
-    Moves,
-    Positions,
-}
-
-#[derive(Clone, Copy)]
 enum Kind {
     Help,
     Number(Limit),
@@ -42,144 +37,130 @@ enum Kind {
 
 // What the words so far have given, and the limit whose number comes next, if one does.
 #[derive(Clone, Copy)]
-struct Given {
-    help: bool,
-    limits: Limits,
-    awaited: Option<Limit>,
-    game: Option<usize>,
-    calls: Option<usize>,
+pub struct Given {
+    pub help: bool,
+    pub limits: Limits,
+    pub awaited: Option<Limit>,
+    pub game: Option<usize>,
+    pub calls: Option<usize>,
 }
 
-fn begins_as_option(word: &[u8]) -> bool
-    ensures { result ≡ begins_as_option word.now }
+impl Default for Given {
+    ghost is_default = { λ given. given ≡ nothing_given };
+
+    fn default() -> Given {
+        Given {
+            help: false,
+            limits: Limits::default(),
+            awaited: None,
+            game: None,
+            calls: None,
+        }
+    }
+}
+
+// What grows with each word of a command line, or finds fault with it.
+pub trait TakesWords: Copy {
+    ghost with: { Self → List ℕ → ℕ → Result Self Fault };
+
+    // Word `at` is taken.
+    fn take_word(self, word: &str, at: usize) -> Result<Self, Fault>
+        ensures { result ≡ with self word.now at };
+}
+
+// Takes words from the first on, as far as there is no fault.
+pub fn take_words<T: TakesWords>(start: T, words: &[String]) -> Result<T, Fault>
+    ensures { result ≡ taken T.with start (map string_bytes words.now) 0 }
 {
-    word.len() > 0 && word[0] == b'-'
+    let mut given = start;
+    for (i, word) in words.iter().enumerate() {
+        given = given.take_word(word.as_str(), i)?;
+    }
+    Ok(given)
 }
 
 fn kind_of(word: &str) -> Kind
     ensures { result ≡ word_kind word.now }
 {
-    if word == "--help" {
-        return Kind::Help;
-    }
-    if word == "--tables" {
-        return Kind::Number(Limit::Tables);
-    }
-    if word == "--moves" {
-        return Kind::Number(Limit::Moves);
-    }
-    if word == "--positions" {
-        return Kind::Number(Limit::Positions);
-    }
-    if begins_as_option(word.as_bytes()) {
-        return Kind::Unknown;
-    }
-    Kind::File
-}
-
-fn set_limit(limits: Limits, limit: Limit, n: u32) -> Limits
-    ensures { result ≡ with_limit limits limit n }
-{
-    match limit {
-        Limit::Tables => Limits {
-            tables: n,
-            ..limits
-        },
-        Limit::Moves => Limits { moves: n, ..limits },
-        Limit::Positions => Limits {
-            positions: n,
-            ..limits
-        },
+    match word {
+        "--help" => Kind::Help,
+        "--tables" => Kind::Number(Limit::Tables),
+        "--moves" => Kind::Number(Limit::Moves),
+        "--positions" => Kind::Number(Limit::Positions),
+        _ if word.as_bytes().first() == Some(&b'-') => Kind::Unknown,
+        _ => Kind::File,
     }
 }
 
-// A word that is no option's number.
-fn take_kind(given: Given, kind: Kind, at: usize) -> Result<Given, Fault>
-    ensures { result ≡ with_kind given kind at }
-{
-    match kind {
-        Kind::Help => Ok(Given {
-            help: true,
-            ..given
-        }),
-        Kind::Number(limit) => Ok(Given {
-            awaited: Some(limit),
-            ..given
-        }),
-        Kind::Unknown => Err(Fault::UnknownOption(at)),
-        Kind::File => take_file(given, at),
+impl Given {
+    // A word that is no option's number.
+    fn take_kind(self, kind: Kind, at: usize) -> Result<Given, Fault>
+        ensures { result ≡ with_kind self kind at }
+    {
+        match kind {
+            Kind::Help => Ok(Given { help: true, ..self }),
+            Kind::Number(limit) => Ok(Given {
+                awaited: Some(limit),
+                ..self
+            }),
+            Kind::Unknown => Err(Fault::UnknownOption(at)),
+            Kind::File => self.take_file(at),
+        }
+    }
+
+    // The first file is the game, and the second the calls.
+    fn take_file(self, at: usize) -> Result<Given, Fault>
+        ensures { result ≡ with_file self at }
+    {
+        match (self.game, self.calls) {
+            (None, _) => Ok(Given {
+                game: Some(at),
+                ..self
+            }),
+            (_, None) => Ok(Given {
+                calls: Some(at),
+                ..self
+            }),
+            _ => Err(Fault::ExtraFile(at)),
+        }
+    }
+
+    // What is asked for once all words are taken.
+    fn asked(self) -> Result<Request, Fault>
+        ensures { result ≡ asked self }
+    {
+        if self.help {
+            return Ok(Request::Help);
+        }
+        if self.awaited.is_some() {
+            return Err(Fault::MissingNumber);
+        }
+        Ok(Request::Run {
+            limits: self.limits,
+            game: self.game.ok_or(Fault::MissingGame)?,
+            calls: self.calls,
+        })
     }
 }
 
-fn take_file(given: Given, at: usize) -> Result<Given, Fault>
-    ensures { result ≡ with_file given at }
-{
-    match (given.game, given.calls) {
-        (None, _) => Ok(Given {
-            game: Some(at),
-            ..given
-        }),
-        (_, None) => Ok(Given {
-            calls: Some(at),
-            ..given
-        }),
-        _ => Err(Fault::ExtraFile(at)),
-    }
-}
+impl TakesWords for Given {
+    ghost with = { with_word };
 
-fn take_word(given: Given, word: &str, at: usize) -> Result<Given, Fault>
-    ensures { result ≡ with_word given word.now at }
-{
-    let Some(limit) = given.awaited else {
-        return take_kind(given, kind_of(word), at);
-    };
-    let Some(n) = text::read_number(word.as_bytes()) else {
-        return Err(Fault::BadNumber(at));
-    };
-    let limits = set_limit(given.limits, limit, n);
-    Ok(Given {
-        limits,
-        awaited: None,
-        ..given
-    })
-}
-
-// What is asked for once all words are taken.
-fn asked_for(given: Given) -> Result<Request, Fault>
-    ensures { result ≡ asked given }
-{
-    if given.help {
-        return Ok(Request::Help);
+    fn take_word(self, word: &str, at: usize) -> Result<Given, Fault> {
+        let Some(limit) = self.awaited else {
+            return self.take_kind(kind_of(word), at);
+        };
+        let n = text::read_number(word.as_bytes()).ok_or(Fault::BadNumber(at))?;
+        Ok(Given {
+            limits: self.limits.with(limit, n),
+            awaited: None,
+            ..self
+        })
     }
-    if let Some(_) = given.awaited {
-        return Err(Fault::MissingNumber);
-    }
-    let Some(game) = given.game else {
-        return Err(Fault::MissingGame);
-    };
-    Ok(Request::Run {
-        limits: given.limits,
-        game,
-        calls: given.calls,
-    })
 }
 
 pub fn read_request(words: &[String]) -> Result<Request, Fault>
     ensures { result ≡ request_of (map string_bytes words.now) }
 {
-    let mut given = Given {
-        help: false,
-        limits: Limits {
-            tables: 16,
-            moves: 1000,
-            positions: 256,
-        },
-        awaited: None,
-        game: None,
-        calls: None,
-    };
-    for (i, word) in words.iter().enumerate() {
-        given = take_word(given, word.as_str(), i)?;
-    }
-    asked_for(given)
+    take_words(Given::default(), words)?.asked()
 }

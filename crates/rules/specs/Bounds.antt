@@ -1,6 +1,8 @@
 -- The games and limits that a server may be opened with, and the calls that bytes can carry. Assumes nothing: these are definitions.
 use Rattle.std.specs.Prelude.{Bool, true, false, ◌&&◌, List, [], ◌∷◌, ℕ, zero, suc, ◌+◌, ◌*◌, ltb, leb, length}
 use Rattle.rules.specs.declared.Limits.{Limits}
+use Rattle.rules.specs.declared.Limit.{Limit}
+use Rattle.rules.specs.declared.Limit.TheVariants.{Tables, Moves, Positions}
 use Rattle.rules.specs.declared.Call.{Call}
 use Rattle.rules.specs.declared.Call.TheVariants.{Sit, Play, Ticks, See, May, Back, CanForce}
 use Rattle.rules.specs.Rules.{Expr, Num, Cell, First, Second, Me, Add, Sub, Mul, Div, Rem, Lt, Eq, If, Effect, Rule, Game}
@@ -85,6 +87,12 @@ good_game g =
 
 unfoldable pub good_limits : Limits → Bool
 good_limits l = leb l.tables 1024 && (leb l.moves 1000000 && leb l.positions 8192)
+
+-- the same limits but for one of them
+abbrev pub with_limit : Limits → Limit → ℕ → Limits
+with_limit l Tables n = record { tables = n; moves = l.moves; positions = l.positions }
+with_limit l Moves n = record { tables = l.tables; moves = n; positions = l.positions }
+with_limit l Positions n = record { tables = l.tables; moves = l.moves; positions = n }
 
 -- those of a server for which none are given
 abbrev pub usual_limits : Limits

@@ -2,7 +2,7 @@
 #![tactic(auto)]
 
 ghost use Rattle.std.specs.Prelude.{◌≡◌};
-ghost use Rattle.rules.specs.Bounds.{usual_limits};
+ghost use Rattle.rules.specs.Bounds.{with_limit, usual_limits};
 ghost use Rattle.rules.specs.Calls.{refusal_place};
 ghost use Rattle.rules.specs.Reasons.{refusal_by};
 
@@ -22,6 +22,30 @@ pub struct Limits {
     pub tables: u32,
     pub moves: u32,
     pub positions: u32,
+}
+
+// One of the limits.
+#[derive(Clone, Copy, PartialEq, Eq, Debug)]
+pub enum Limit {
+    Tables,
+    Moves,
+    Positions,
+}
+
+impl Limits {
+    // The same but for one of them.
+    pub fn with(self, limit: Limit, n: u32) -> Limits
+        ensures { result ≡ with_limit self limit n }
+    {
+        match limit {
+            Limit::Tables => Limits { tables: n, ..self },
+            Limit::Moves => Limits { moves: n, ..self },
+            Limit::Positions => Limits {
+                positions: n,
+                ..self
+            },
+        }
+    }
 }
 
 impl Default for Limits {

@@ -1,91 +1,44 @@
 -- What the words of a command line ask for. Assumes nothing: these are definitions.
-use Rattle.std.specs.Prelude.{ℕ, ◌+◌, Bool, true, false, cond, ◌&&◌, List, [], ◌∷◌, length, Some, None, Ok, Err, codes, Option, Result, ◌==◌, nat_lt, slice_index}
+use Rattle.std.specs.Prelude.{ℕ, Bool, true, false, cond, ◌&&◌, List, Some, None, Ok, Err, codes, Option, Result, is_none}
 use Rattle.std.specs.Str.{bytes_eq}
 use Rattle.rules.specs.declared.Limits.{Limits}
-use Rattle.text.specs.Grammar.{number_of}
-use Rattle.server_commands.specs.declared.options.Limit.{Limit}
-use Rattle.server_commands.specs.declared.options.Limit.TheVariants.{Tables, Moves, Positions}
+use Rattle.commands.specs.declared.options.Fault.{Fault}
+use Rattle.commands.specs.declared.options.Fault.TheVariants.{ExtraFile, MissingNumber, MissingGame}
+use Rattle.commands.specs.Faults.{and_then, taken}
+use Rattle.commands.specs.Options as common
 use Rattle.server_commands.specs.declared.options.Task.{Task}
 use Rattle.server_commands.specs.declared.options.Task.TheVariants as task
-use Rattle.server_commands.specs.declared.options.Kind.{Kind}
-use Rattle.server_commands.specs.declared.options.Kind.TheVariants as kind
 use Rattle.server_commands.specs.declared.options.Given.{Given}
 use Rattle.server_commands.specs.declared.options.Request.{Request}
 use Rattle.server_commands.specs.declared.options.Request.TheVariants as request
-use Rattle.server_commands.specs.declared.options.Fault.{Fault}
-use Rattle.server_commands.specs.declared.options.Fault.TheVariants.{UnknownOption, BadNumber, ExtraFile, MissingNumber, MissingGame}
 
--- a word that begins with '-' is an option
-abbrev pub begins_as_option : List ℕ → Bool
-begins_as_option w = nat_lt 0 (length w) && slice_index w 0 == 45
+-- word i is this option, and not the number of the one before it
+abbrev pub is_option : Given → List ℕ → List ℕ → Bool
+is_option g w option = bytes_eq w option && is_none g.common.awaited
 
--- what kind of word it is
-abbrev pub word_kind : List ℕ → Kind
-word_kind w =
-    cond (bytes_eq w (codes "--help")) kind.Help
-    (cond (bytes_eq w (codes "--large")) kind.Large
-    (cond (bytes_eq w (codes "--print")) (kind.Do task.Print)
-    (cond (bytes_eq w (codes "--bytes")) (kind.Do task.Bytes)
-    (cond (bytes_eq w (codes "--tables")) (kind.Number Tables)
-    (cond (bytes_eq w (codes "--moves")) (kind.Number Moves)
-    (cond (bytes_eq w (codes "--positions")) (kind.Number Positions)
-    (cond (begins_as_option w) kind.Unknown kind.File)))))))
-
-abbrev pub with_limit : Limits → Limit → ℕ → Limits
-with_limit l Tables n = record { tables = n; moves = l.moves; positions = l.positions }
-with_limit l Moves n = record { tables = l.tables; moves = n; positions = l.positions }
-with_limit l Positions n = record { tables = l.tables; moves = l.moves; positions = n }
-
-abbrev pub and_then : {X Y : Type 0} → Result X Fault → (X → Result Y Fault) → Result Y Fault
-and_then (Ok x) f = f x
-and_then (Err e) f = Err e
-
-abbrev pub by_option : {X Y : Type 0} → Option X → Y → (X → Y) → Y
-by_option None y f = y
-by_option (Some x) y f = f x
-
--- the first file is the game, the second the calls
-abbrev pub with_file : Given → ℕ → Result Given Fault
-with_file g i =
-    by_option g.game (Ok (record { help = g.help; large = g.large; task = g.task; limits = g.limits; awaited = g.awaited; game = Some i; calls = g.calls }))
-    (λ _. by_option g.calls (Ok (record { help = g.help; large = g.large; task = g.task; limits = g.limits; awaited = g.awaited; game = g.game; calls = Some i }))
-    (λ _. Err (ExtraFile i)))
-
--- a word that is no option's number. Of two that say what is done with the game the last counts
-abbrev pub with_kind : Given → Kind → ℕ → Result Given Fault
-with_kind g kind.Help i = Ok (record { help = true; large = g.large; task = g.task; limits = g.limits; awaited = g.awaited; game = g.game; calls = g.calls })
-with_kind g kind.Large i = Ok (record { help = g.help; large = true; task = g.task; limits = g.limits; awaited = g.awaited; game = g.game; calls = g.calls })
-with_kind g (kind.Do t) i = Ok (record { help = g.help; large = g.large; task = t; limits = g.limits; awaited = g.awaited; game = g.game; calls = g.calls })
-with_kind g (kind.Number x) i = Ok (record { help = g.help; large = g.large; task = g.task; limits = g.limits; awaited = Some x; game = g.game; calls = g.calls })
-with_kind g kind.Unknown i = Err (UnknownOption i)
-with_kind g kind.File i = with_file g i
-
--- word i: the number of the option before it, or an option or a file itself
+-- word i: one of three options, or what is common to all programs. Of two options that say what is done with the game the last counts
 unfoldable pub with_word : Given → List ℕ → ℕ → Result Given Fault
 with_word g w i =
-    by_option g.awaited (with_kind g (word_kind w) i)
-    (λ x. by_option (number_of w) (Err (BadNumber i))
-    (λ n. Ok (record { help = g.help; large = g.large; task = g.task; limits = with_limit g.limits x n; awaited = None; game = g.game; calls = g.calls })))
+    cond (is_option g w (codes "--large")) (Ok (record { common = g.common; large = true; task = g.task }))
+    (cond (is_option g w (codes "--print")) (Ok (record { common = g.common; large = g.large; task = task.Print }))
+    (cond (is_option g w (codes "--bytes")) (Ok (record { common = g.common; large = g.large; task = task.Bytes }))
+    (and_then (common.with_word g.common w i) (λ h. Ok (record { common = h; large = g.large; task = g.task })))))
 
 -- what is asked for of the game, which is word i. Only a server takes a second file
 abbrev pub asked_of : Given → Task → ℕ → Result Request Fault
-asked_of g task.Run i = Ok (request.Run g.limits g.large i g.calls)
-asked_of g task.Print i = by_option g.calls (Ok (request.Print i)) (λ j. Err (ExtraFile j))
-asked_of g task.Bytes i = by_option g.calls (Ok (request.Bytes i)) (λ j. Err (ExtraFile j))
+asked_of g task.Run i = Ok (request.Run g.common.limits g.large i g.common.calls)
+asked_of g task.Print i = common.by_option g.common.calls (Ok (request.Print i)) (λ j. Err (ExtraFile j))
+asked_of g task.Bytes i = common.by_option g.common.calls (Ok (request.Bytes i)) (λ j. Err (ExtraFile j))
 
 -- what is asked for once all words are taken
 abbrev pub asked : Given → Result Request Fault
 asked g =
-    cond g.help (Ok request.Help)
-    (by_option g.awaited (by_option g.game (Err MissingGame) (asked_of g g.task)) (λ _. Err MissingNumber))
+    cond g.common.help (Ok request.Help)
+    (common.by_option g.common.awaited (common.by_option g.common.game (Err MissingGame) (asked_of g g.task)) (λ _. Err MissingNumber))
 
-unfoldable pub with_words : Given → List (List ℕ) → ℕ → Result Request Fault
-with_words g [] i = asked g
-with_words g (w ∷ ws) i = and_then (with_word g w i) (λ h. with_words h ws (i + 1))
-
--- unless others are given: a server of the ordinary size, for 16 tables, 1000 moves and 256 positions
+-- unless others are given: a server of the ordinary size, with the limits that are common to all programs
 abbrev pub nothing_given : Given
-nothing_given = record { help = false; large = false; task = task.Run; limits = record { tables = 16; moves = 1000; positions = 256 }; awaited = None; game = None; calls = None }
+nothing_given = record { common = common.nothing_given; large = false; task = task.Run }
 
 unfoldable pub request_of : List (List ℕ) → Result Request Fault
-request_of ws = with_words nothing_given ws 0
+request_of ws = and_then (taken with_word nothing_given ws 0) asked

@@ -5,4 +5,4 @@ mod lines;
 mod options;
 
 pub use lines::{Asked, CallBytes, kept_is_read_as_said, read_line};
-pub use options::{Fault, Request, read_request};
+pub use options::{Request, read_request};
