@@ -4,20 +4,12 @@
 ghost use Rattle.std.specs.Prelude.{◌≡◌, ◌<◌, true, false, map, is_err, string_bytes};
 ghost use Rattle.commands.specs.Options.{request_of};
 ghost use Rattle.console.specs.Ends.{refused_words};
-ghost use Rattle.rules.specs.Bounds.{good_limits};
 
-use commands::{Fault, Reply, Request, read_request, reply_to};
-use rules::Limits;
+use anyhow::anyhow;
+use commands::{Fault, Reply, Request, first_too_many, read_request, reply_to};
 use std::fs::File;
 use std::io::{BufRead, BufReader, BufWriter, Write};
-use std::{fs, io};
-
-// The largest limits that a server may be opened with.
-const MOST_TABLES: u32 = 1024;
-
-const MOST_MOVES: u32 = 1000000;
-
-const MOST_POSITIONS: u32 = 8192;
+use std::{fmt, fs, io};
 
 const HELP: &str = "answer [--tables N] [--moves N] [--positions N] GAME [CALLS]
 
@@ -54,11 +46,7 @@ fn show(out: &mut BufWriter<io::Stdout>, reply: Reply) -> io::Result<()> {
     match reply {
         Reply::Nothing => Ok(()),
         Reply::NoCall(place) => writeln!(out, "refused 1 at {place}"),
-        Reply::Refused(refusal) => {
-            let number = refusal.number;
-            let place = refusal.place;
-            writeln!(out, "refused {number} at {place}")
-        }
+        Reply::Refused(refusal) => writeln!(out, "{refusal}"),
     }
 }
 
@@ -81,76 +69,74 @@ fn answer_lines<R: io::Read + Drop>(rt: &HostRuntime, input: R) -> io::Result<()
 }
 
 // One sentence on standard error, and an error for `main` to end with.
-fn fail(rt: &HostRuntime, sentence: &str) -> anyhow::Result<()>
+fn fail<D: fmt::Display + Drop>(rt: &HostRuntime, sentence: D) -> anyhow::Result<()>
     ensures { is_err result ≡ true }
 {
     eprintln!(rt; "answer: {sentence}")?;
-    Err(anyhow::Error::msg(sentence))
+    Err(anyhow!("{sentence}"))
 }
 
 // The game file must be there. It is not understood yet.
 fn open_game(rt: &HostRuntime, game: &str) -> anyhow::Result<()> {
     match fs::read(rt, game) {
         Ok(_) => Ok(()),
-        Err(e) => {
-            let sentence = format!(in rt.alloc(); "the game file '{game}' can't be read: {e}")?;
-            fail(rt, sentence.as_str())
-        }
+        Err(e) => fail(
+            rt,
+            format_args!("the game file '{game}' can't be read: {e}"),
+        ),
     }
 }
 
 fn answer_file(rt: &HostRuntime, calls: &str) -> anyhow::Result<()> {
     match File::open(rt, calls) {
         Ok(file) => answer_input(rt, file),
-        Err(e) => {
-            let sentence = format!(in rt.alloc(); "the calls file '{calls}' can't be read: {e}")?;
-            fail(rt, sentence.as_str())
-        }
+        Err(e) => fail(
+            rt,
+            format_args!("the calls file '{calls}' can't be read: {e}"),
+        ),
     }
 }
 
 fn answer_input<R: io::Read + Drop>(rt: &HostRuntime, input: R) -> anyhow::Result<()> {
     match answer_lines(rt, input) {
         Ok(()) => Ok(()),
-        Err(e) => {
-            let sentence = format!(in rt.alloc(); "calls can't be read, or answers written: {e}")?;
-            fail(rt, sentence.as_str())
-        }
+        Err(e) => fail(
+            rt,
+            format_args!("calls can't be read, or answers written: {e}"),
+        ),
     }
+}
+
+fn word_at(words: &[String], i: usize) -> &str {
+    words.get(i).map_or("", |word| word.as_str())
 }
 
 fn complain(rt: &HostRuntime, words: &[String], fault: Fault) -> anyhow::Result<()>
     ensures { is_err result ≡ true }
 {
-    let heap = rt.alloc();
     match fault {
         Fault::UnknownOption(i) => {
             let word = word_at(words, i);
-            let sentence = format!(in heap; "there is no option '{word}'; see answer --help")?;
-            fail(rt, sentence.as_str())
+            fail(
+                rt,
+                format_args!("there is no option '{word}'; see answer --help"),
+            )
         }
         Fault::BadNumber(i) => {
             let word = word_at(words, i);
-            let sentence = format!(in heap; "'{word}' is no number up to 4294967295")?;
-            fail(rt, sentence.as_str())
+            fail(rt, format_args!("'{word}' is no number up to 4294967295"))
         }
         Fault::ExtraFile(i) => {
             let word = word_at(words, i);
-            let sentence = format!(in heap;
-                "a game file and a calls file are all it takes, and '{word}' is one more"
-            )?;
-            fail(rt, sentence.as_str())
+            fail(
+                rt,
+                format_args!(
+                    "a game file and a calls file are all it takes, and '{word}' is one more"
+                ),
+            )
         }
         Fault::MissingNumber => fail(rt, "the last option lacks its number"),
         Fault::MissingGame => fail(rt, "no game file is named; see answer --help"),
-    }
-}
-
-fn word_at(words: &[String], i: usize) -> &str {
-    if i < words.len() {
-        words[i].as_str()
-    } else {
-        ""
     }
 }
 
@@ -171,7 +157,10 @@ pub fn answer(rt: &HostRuntime, words: &[String]) -> anyhow::Result<()>
                 calls,
             },
         ) => {
-            check_limits(rt, limits)?;
+            if let Some(excess) = first_too_many(limits) {
+                println!(rt; "refused 3 at 1")?;
+                return fail(rt, excess);
+            }
             open_game(rt, word_at(words, game))?;
             match calls {
                 Some(i) => answer_file(rt, word_at(words, i)),
@@ -179,25 +168,4 @@ pub fn answer(rt: &HostRuntime, words: &[String]) -> anyhow::Result<()>
             }
         }
     }
-}
-
-fn check_limits(rt: &HostRuntime, limits: Limits) -> anyhow::Result<()>
-    ensures { good_limits limits ≡ false → is_err result ≡ true }
-{
-    check_limit(rt, "tables", limits.tables, MOST_TABLES)?;
-    check_limit(rt, "moves", limits.moves, MOST_MOVES)?;
-    check_limit(rt, "positions", limits.positions, MOST_POSITIONS)
-}
-
-fn check_limit(rt: &HostRuntime, name: &str, n: u32, most: u32) -> anyhow::Result<()>
-    ensures { most < n → is_err result ≡ true }
-{
-    if n <= most {
-        return Ok(());
-    }
-    println!(rt; "refused 3 at 1")?;
-    let sentence = format!(in rt.alloc();
-        "{n} {name} are more than a server has, which is {most}"
-    )?;
-    fail(rt, sentence.as_str())
 }
