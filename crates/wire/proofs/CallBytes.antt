@@ -10,6 +10,9 @@ use Rattle.rules.specs.Calls.{call_number}
 use Rattle.rules.specs.Bounds.{all_below, readable}
 use Rattle.wire.specs.Fields.{fields_bytes, fields_at}
 use Rattle.wire.specs.Calls.{call_fields, call_bytes, field_count, Known, call_of, parse_call, CallReadsBack, CallWritesBack, CallPlaceIsLongestFront}
+use Rattle.wire.specs.declared.calls.CallKind.{CallKind}
+use Rattle.wire.specs.declared.calls.CallKind.TheVariants as kind
+use Rattle.wire.specs.CallKinds.{byte_of}
 use Rattle.wire.proofs.FieldLists.{fields_split, fields_fit, fields_back, length_fields_bytes, below_take, below_append}
 
 -- a call is readable if its fields fit
@@ -206,3 +209,15 @@ read_whole [] k n r known count long is = absurd (omega arith)
 read_whole (x ∷ bs) k n r known count long is =
     let want : 1 + 4 * n ≡ 1 + 4 * field_count x = ap (λ m. 1 + 4 * m) (count ∙ ap field_count known.1) in
     ap Ok (is ∙ at_kind (x ∷ bs) k x (sym known.1)) ∙ sym (parse_whole x bs (omega arith) (long ∙ want))
+
+pub kind_known : (bs : List ℕ) (k : CallKind) → 0 < length bs → byte_of k ≡ get_or bs 0 0 → Known bs (byte_of k)
+kind_known bs k some is = (some, is, go k)
+  where
+    go : (k : CallKind) → byte_of k ≤ 6
+    go kind.Sit = omega arith
+    go kind.Play = omega arith
+    go kind.Ticks = omega arith
+    go kind.See = omega arith
+    go kind.May = omega arith
+    go kind.Back = omega arith
+    go kind.CanForce = omega arith

@@ -21,7 +21,7 @@ pub enum ExprKind {
     If,
 }
 
-// A byte that is no kind of expression.
+// A byte that is no kind, of an expression or of a call.
 #[derive(Clone, Copy, PartialEq, Eq, Debug)]
 pub struct UnknownKind;
 
