@@ -1,4 +1,4 @@
-use Rattle.std.proofs.Common.{◌-◌, ◌++◌, length, take, drop, replicate, get_or, min, ap, ◌∙◌}
+use Rattle.std.proofs.Common.{◌++◌, length, take, drop, replicate, get_or, min, ap, ◌∙◌}
 use Rattle.std.proofs.lemmas.List.{take_rest, length-drop}
 use Rattle.wire.proofs.FieldLists.{padded}
 use Rattle.wire.proofs.fields.bytes_at.Goals as goal

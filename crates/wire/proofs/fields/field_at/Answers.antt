@@ -1,4 +1,4 @@
-use Rattle.std.proofs.Common.{◌+◌, get_or, ap, ◌∙◌, add-zero, arith}
+use Rattle.std.proofs.Common.{get_or, ap, ◌∙◌, add-zero, arith}
 use Rattle.wire.proofs.FieldLists.{field_is}
 use Rattle.wire.proofs.fields.field_at.Goals as goal
 
