@@ -1,4 +1,4 @@
--- From what was found in bytes to the answer.
+-- Bytes are below 256, and the cells of a game that fits are below 65,536.
 use Rattle.std.proofs.Common.{◌≡◌, ℕ, suc, ◌<◌, true, ◌&&◌, ltb, List, [], ◌∷◌, length, get_or, refl}
 use Rattle.std.proofs.lemmas.Bool.{and_parts, and_from, lt-ltb}
 use Rattle.rules.specs.Rules.{Game}

@@ -6,10 +6,11 @@ use Rattle.std.proofs.lemmas.List.{drop_more, drop-drop, length-drop}
 use Rattle.rules.specs.Rules.{Expr, Rule}
 use Rattle.rules.specs.Bounds.{fits_depth, expr_parts, effect_parts, rule_parts, possible_moves, good_effects}
 use Rattle.wire.specs.Numbers.{bytes_value}
+use Rattle.wire.specs.Fields.{word_at}
 use Rattle.wire.specs.Exprs.{Parsed, got, unreadable, and_then, part, read_exprs}
 use Rattle.wire.specs.Excess.{bound_excess, shallow_rules}
 use Rattle.wire.specs.Games.{read_number, effects_of, read_rule, total_effects}
-use Rattle.wire.specs.GamesWalk.{as_read, exprs_parts, within_levels, behind, word_at, rule_bound, one_total}
+use Rattle.wire.specs.GamesWalk.{as_read, exprs_parts, within_levels, behind, rule_bound, one_total}
 use Rattle.wire.proofs.FieldLists as FieldLists
 use Rattle.wire.proofs.ExprsBack.{sized}
 use Rattle.wire.proofs.GamesHead.{none_read, was_read}

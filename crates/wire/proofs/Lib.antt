@@ -17,5 +17,4 @@ pub mod GamesDeep
 pub mod GamesExcess
 pub mod FieldLists
 pub mod CallBytes
-pub mod KindsParts
 pub mod Writing

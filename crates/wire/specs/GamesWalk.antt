@@ -1,5 +1,5 @@
 -- What the steps of checking a game find in its bytes. No reader has to believe these: the contract of the whole does not name them.
-use Rattle.std.specs.Prelude.{ℕ, zero, suc, ◌+◌, ◌*◌, ◌^◌, ◌<◌, ◌≤◌, Bool, true, false, cond, not, ◌&&◌, ◌||◌, List, [], ◌∷◌, length, take, drop, Some, None, Option, nat_lt}
+use Rattle.std.specs.Prelude.{ℕ, zero, suc, ◌+◌, ◌*◌, ◌^◌, ◌<◌, ◌≤◌, Bool, true, false, cond, not, ◌&&◌, ◌||◌, List, [], ◌∷◌, length, Some, None, Option, nat_lt}
 use Rattle.std.specs.Option.{option_or}
 use Rattle.std.specs.Borrow.{Bor}
 use Rattle.rules.specs.Rules.{Expr, Num, Rule, Game}
@@ -9,6 +9,7 @@ use Rattle.wire.specs.declared.excesses.Excess.TheVariants.{FirstBound, SecondBo
 use Rattle.wire.specs.declared.walks.Totals.{Totals}
 use Rattle.wire.specs.declared.walks.Found.{Found}
 use Rattle.wire.specs.Numbers.{bytes_value}
+pub use Rattle.wire.specs.Fields.{word_at}
 use Rattle.wire.specs.Exprs.{Parsed, got, unreadable, and_then, Kind, alone, kind_after}
 use Rattle.wire.specs.Games.{total_effects}
 use Rattle.wire.specs.Excess.{count_excess, bound_excess, shallow_rules, shallow}
@@ -48,10 +49,6 @@ arity_of k = k.arity
 abbrev pub behind : ℕ → Parsed (List Expr) → Option (List ℕ)
 behind l unreadable = None
 behind l (got es r) = cond (within_levels l es) (Some r) None
-
--- the number in the two bytes at i
-abbrev pub word_at : List ℕ → ℕ → ℕ
-word_at bs i = bytes_value (take 2 (drop i bs))
 
 -- the first bound above 256 of a rule with the number n
 abbrev pub rule_bound : ℕ → ℕ → ℕ → Option Excess

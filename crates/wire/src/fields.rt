@@ -1,8 +1,7 @@
 // Numbers as bytes, the lowest byte first, at places of bytes.
 ghost use Rattle.std.specs.Prelude.{◌≡◌, ℕ, ◌+◌, ◌%◌, ◌<◌, slice_index, slice_set};
 ghost use Rattle.wire.specs.Numbers.{number_bytes};
-ghost use Rattle.wire.specs.Fields.{field_at, fields_bytes, written};
-ghost use Rattle.wire.specs.GamesWalk.{word_at};
+ghost use Rattle.wire.specs.Fields.{field_at, word_at, fields_bytes, written};
 
 // Puts an item at a place, if it is there.
 pub fn put<T: Copy>(items: &mut [T], at: usize, item: T)

@@ -60,6 +60,7 @@ impl From<ExprKind> for u8 {
 
 impl ExprKind {
     // How many parts an expression of this kind has.
+    #[tactic(auto, unfolding(crate::specs::Exprs::kind_after))]
     pub fn arity(self) -> usize
         ensures known { 1 ≤ kind_number self → result ≡ (kind_after (kind_number self - 1)).arity }
         ensures few { result ≤ 3 }

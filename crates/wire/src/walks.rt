@@ -14,7 +14,7 @@ const MOST_LEVELS: u32 = 33;
 const MOST_BOUND: usize = 256;
 
 // What rules and expressions have together: the first bound that is too large, and whether an expression is too deep.
-#[derive(Clone, Copy)]
+#[derive(Clone, Copy, Default)]
 pub(super) struct Totals {
     pub effects: u32,
     pub moves: usize,
@@ -153,13 +153,7 @@ fn walk_rules(bytes: &[u8], count: u8) -> Option<(Totals, &[u8])>
     ensures few { IfSome result (λ walked. Few count walked.0 (length bytes.now) (length walked.1.now)) }
 {
     let mut rest = bytes;
-    let mut totals = Totals {
-        effects: 0,
-        moves: 0,
-        parts: 0,
-        bound: None,
-        deep: false,
-    };
+    let mut totals = Totals::default();
     for rule in 0..usize::from(count) {
         let (one, behind) = walk_rule(rest, rule)?;
         totals = totals + one;

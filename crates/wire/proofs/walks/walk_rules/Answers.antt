@@ -1,4 +1,4 @@
-use Rattle.std.proofs.Common.{◌≡◌, ℕ, suc, ◌+◌, ◌-◌, sym, ap, ◌∙◌, arith}
+use Rattle.std.proofs.Common.{◌≡◌, ℕ, suc, ◌+◌, ◌-◌, sym, ap, ◌∙◌, rules, arith}
 use Rattle.wire.specs.Games.{read_rules}
 use Rattle.wire.specs.GamesWalk.{found}
 use Rattle.wire.proofs.GamesRules.{nothing, added, added_start, added_step, added_end, no_rule}
@@ -8,9 +8,14 @@ pub loop-rule-init : goal.loop-rule-init
 loop-rule-init c =
     let bs = c.args.bytes.now in
     let all : c.args.count - 0 ≡ c.args.count = omega arith in
+    let start : c.default-totals.result ≡ nothing = search rules in
     record {
-      read = ap (λ n. added nothing 0 (read_rules n bs)) all ∙ added_start (read_rules c.args.count bs);
-      few = record { effects = omega arith; moves = omega arith; parts = omega arith };
+      read = (λ i. added (start i) 0 (read_rules (all i) bs)) ∙ added_start (read_rules c.args.count bs);
+      few = record {
+        effects = omega (arith, ap (λ t. t.effects) start);
+        moves = omega (arith, ap (λ t. t.moves) start);
+        parts = omega (arith, ap (λ t. t.parts) start);
+      };
     }
 
 pub returns-in_err-one-clause-read : goal.returns-in_err-one-clause-read
