@@ -9,7 +9,10 @@ use Rattle.rules.specs.declared.Call.TheVariants.{Sit, Play, Ticks, See, May, Ba
 use Rattle.rules.specs.Calls.{call_number}
 use Rattle.rules.specs.Bounds.{all_below, readable}
 use Rattle.wire.specs.Fields.{fields_bytes, fields_at}
-use Rattle.wire.specs.Calls.{call_fields, call_bytes, field_count, Known, call_of, parse_call, CallReadsBack, CallWritesBack, CallPlaceIsLongestFront}
+use Rattle.wire.specs.Calls.{call_fields, call_bytes, field_count, call_of, parse_call, CallReadsBack, CallWritesBack, CallPlaceIsLongestFront}
+use Rattle.wire.specs.declared.calls.CallKind.{CallKind}
+use Rattle.wire.specs.declared.calls.CallKind.TheVariants as kind
+use Rattle.wire.specs.CallKinds.{byte_of}
 use Rattle.wire.proofs.FieldLists.{fields_split, fields_fit, fields_back, length_fields_bytes, below_take, below_append}
 
 -- a call is readable if its fields fit
@@ -191,6 +194,22 @@ read_none (x ∷ bs) h = absurd (omega arith)
 pub read_unknown : (bs : List ℕ) → 6 < get_or bs 0 0 → parse_call bs ≡ Err 0
 read_unknown [] low = absurd (omega arith)
 read_unknown (x ∷ bs) low = parse_unknown x bs low
+
+-- bytes begin with the kind k of a call
+abbrev Known : List ℕ → ℕ → Type 0
+Known bs k = (0 < length bs) × (k ≡ get_or bs 0 0) × (k ≤ 6)
+
+pub kind_known : (bs : List ℕ) (k : CallKind) → 0 < length bs → byte_of k ≡ get_or bs 0 0 → Known bs (byte_of k)
+kind_known bs k some is = (some, is, go k)
+  where
+    go : (k : CallKind) → byte_of k ≤ 6
+    go kind.Sit = omega arith
+    go kind.Play = omega arith
+    go kind.Ticks = omega arith
+    go kind.See = omega arith
+    go kind.May = omega arith
+    go kind.Back = omega arith
+    go kind.CanForce = omega arith
 
 pub read_part :
     (bs : List ℕ) (k n r : ℕ) → Known bs k → n ≡ field_count k → (length bs ≡ 1 + 4 * n → ⊥) → r ≡ min (length bs) (1 + 4 * n) → Err r ≡ parse_call bs

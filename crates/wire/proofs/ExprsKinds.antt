@@ -1,5 +1,6 @@
 -- What holds of every kind of expression alike: its bytes, its parts and its depth come from those of its parts.
-use Rattle.std.proofs.Common.{◌≡◌, ℕ, zero, suc, ◌+◌, ◌-◌, ◌<◌, ◌≤◌, Bool, true, false, cond, ◌&&◌, eqb, ltb, List, [], ◌∷◌, ◌++◌, length, sym, refl, ap, ◌∙◌, arith}
+use Rattle.std.proofs.Common.{◌≡◌, ℕ, zero, suc, ◌+◌, ◌-◌, ◌<◌, ◌≤◌, true, false, cond, ◌&&◌, eqb, ltb, List, [], ◌∷◌, ◌++◌, length, sym, refl, ap, ◌∙◌, arith}
+use Rattle.std.proofs.Math.Bool.{and-true}
 use Rattle.std.proofs.lemmas.List.{append-nil}
 use Rattle.rules.specs.Rules.{Expr, Cell, First, Second, Me, Add, Sub, Mul, Div, Rem, Lt, Eq, If}
 use Rattle.rules.specs.Bounds.{fits_depth, expr_parts}
@@ -13,10 +14,6 @@ pub record Lawful (b : ℕ) (k : Kind) (es : List Expr) : Type 0 where
   pub fits : expr_fits (k.make es) ≡ exprs_fit es
   pub parts : expr_parts (k.make es) ≡ suc (exprs_parts es)
   pub levels : (l : ℕ) → fits_depth (k.make es) l ≡ within_levels l es
-
-and_true : (x : Bool) → x ≡ (x && true)
-and_true true = refl
-and_true false = refl
 
 alone_lawful :
     (b : ℕ) (e : Expr) → expr_bytes e ≡ b ∷ [] → expr_fits e ≡ true → expr_parts e ≡ 1 → ((l : ℕ) → fits_depth e l ≡ true) → (es : List Expr)
@@ -39,9 +36,9 @@ two_lawful k f is [] h = absurd (omega arith)
 two_lawful k f is (a ∷ []) h = absurd (omega arith)
 two_lawful k f is (a ∷ b ∷ []) h = record {
   bytes = (is a b).0 ∙ ap (λ r. k ∷ (expr_bytes a ++ r)) (sym (append-nil (expr_bytes b)));
-  fits = (is a b).1 ∙ ap (λ t. expr_fits a && t) (and_true (expr_fits b));
+  fits = (is a b).1 ∙ ap (λ t. expr_fits a && t) (sym (and-true (expr_fits b)));
   parts = omega (arith, (is a b).2);
-  levels = λ l. elim l as (λ m. fits_depth (f a b) m ≡ within_levels m (a ∷ b ∷ [])) [ zero ↦ (is a b).3 | suc m ↦ (is a b).4 m ∙ ap (λ t. fits_depth a m && t) (and_true (fits_depth b m)) ];
+  levels = λ l. elim l as (λ m. fits_depth (f a b) m ≡ within_levels m (a ∷ b ∷ [])) [ zero ↦ (is a b).3 | suc m ↦ (is a b).4 m ∙ ap (λ t. fits_depth a m && t) (sym (and-true (fits_depth b m))) ];
 }
 two_lawful k f is (a ∷ b ∷ c ∷ es) h = absurd (omega arith)
 
@@ -50,9 +47,9 @@ unfolding exprs_bytes exprs_fit exprs_parts within_levels expr_bytes expr_fits e
 cell_lawful [] h = absurd (omega arith)
 cell_lawful (a ∷ []) h = record {
   bytes = ap (λ r. 1 ∷ r) (sym (append-nil (expr_bytes a)));
-  fits = and_true (expr_fits a);
+  fits = sym (and-true (expr_fits a));
   parts = omega arith;
-  levels = λ l. elim l as (λ m. fits_depth (Cell a) m ≡ within_levels m (a ∷ [])) [ zero ↦ refl | suc m ↦ and_true (fits_depth a m) ];
+  levels = λ l. elim l as (λ m. fits_depth (Cell a) m ≡ within_levels m (a ∷ [])) [ zero ↦ refl | suc m ↦ sym (and-true (fits_depth a m)) ];
 }
 cell_lawful (a ∷ b ∷ es) h = absurd (omega arith)
 
@@ -63,10 +60,10 @@ if_lawful (a ∷ []) h = absurd (omega arith)
 if_lawful (a ∷ b ∷ []) h = absurd (omega arith)
 if_lawful (a ∷ b ∷ c ∷ []) h = record {
   bytes = ap (λ r. 12 ∷ (expr_bytes a ++ (expr_bytes b ++ r))) (sym (append-nil (expr_bytes c)));
-  fits = ap (λ t. expr_fits a && (expr_fits b && t)) (and_true (expr_fits c));
+  fits = ap (λ t. expr_fits a && (expr_fits b && t)) (sym (and-true (expr_fits c)));
   parts = omega arith;
   levels = λ l. elim l as (λ m. fits_depth (If a b c) m ≡ within_levels m (a ∷ b ∷ c ∷ []))
-      [ zero ↦ refl | suc m ↦ ap (λ t. fits_depth a m && (fits_depth b m && t)) (and_true (fits_depth c m)) ];
+      [ zero ↦ refl | suc m ↦ ap (λ t. fits_depth a m && (fits_depth b m && t)) (sym (and-true (fits_depth c m))) ];
 }
 if_lawful (a ∷ b ∷ c ∷ d ∷ es) h = absurd (omega arith)
 

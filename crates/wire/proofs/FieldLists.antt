@@ -1,8 +1,8 @@
 -- Fields come back from their bytes, and bytes from the fields that are read from them.
-use Rattle.std.proofs.Common.{◌≡◌, ℕ, zero, suc, ◌+◌, ◌*◌, ◌%◌, ◌^◌, ◌<◌, ◌≤◌, true, ltb, List, [], ◌∷◌, ◌++◌, length, get_or, take, drop, sym, refl, ap, ◌∙◌, ⊎_elim, add_assoc, suc-add, zero-add, arith, length-append, length-drop}
+use Rattle.std.proofs.Common.{◌≡◌, ℕ, zero, suc, ◌+◌, ◌-◌, ◌*◌, ◌%◌, ◌^◌, ◌<◌, ◌≤◌, min, true, ltb, List, [], ◌∷◌, ◌++◌, length, get_or, take, drop, replicate, sym, refl, ap, ◌∙◌, ⊎_elim, add_assoc, suc-add, zero-add, arith, length-append, length-drop}
 use native.Mathlib.Nat.{pow-succ', pow-zero}
 use Rattle.std.proofs.lemmas.Bool.{and_parts, and_from, ltb-true, lt-ltb, cases_lt}
-use Rattle.std.proofs.lemmas.List.{append_assoc, append-nil, take-append-drop, length-take-le, take_all, take_at, drop_at, drop_all, drop_more, drop-drop, get_or_past}
+use Rattle.std.proofs.lemmas.List.{append_assoc, append-nil, take-append-drop, length-take-le, take_all, take_at, drop_at, drop_all, drop_more, drop-drop, get_or_past, get_or_append_left, get_or-append_right, get_or-take, get_or-drop, get_or-replicate}
 use Rattle.rules.specs.Bounds.{all_below}
 use Rattle.wire.specs.Numbers.{number_bytes, bytes_value}
 use Rattle.wire.specs.Fields.{fields_bytes, field_at, fields_at}
@@ -158,10 +158,28 @@ three_fields bs i n =
     let twelve : i + 4 + 4 + 4 ≡ i + 12 = omega arith in
     λ j. field_at bs i ∷ field_at bs (i + 4) ∷ field_at bs (eight j) ∷ fields_at bs (twelve j) n
 
--- two bytes are the lower half of a field
+-- the number in two bytes, and it is the lower half of a field
+pub word_is : (bs : List ℕ) (i : ℕ) → bytes_value (take 2 (drop i bs)) ≡ get_or bs i 0 + 256 * get_or bs (i + 1) 0
+unfolding bytes_value
+word_is bs i =
+    let none : bytes_value (take 0 (drop (i + 1 + 1) bs)) ≡ 0 = refl in
+    omega (arith, value_more bs 1 i, value_more bs 0 (i + 1), none)
+
 pub lower_half :
     (bs : List ℕ) (i : ℕ) → get_or bs i 0 < 256 → get_or bs (i + 1) 0 < 256 → field_at bs i % 65536 ≡ bytes_value (take 2 (drop i bs))
-unfolding bytes_value
-lower_half bs i a b =
-    let none : bytes_value (take 0 (drop (i + 1 + 1) bs)) ≡ 0 = refl in
-    omega (arith, field_is bs i, value_more bs 1 i, value_more bs 0 (i + 1), none)
+lower_half bs i a b = omega (arith, field_is bs i, word_is bs i)
+
+-- bytes from a place on, copied over zeros
+pub padded :
+    (bs : List ℕ) (at w i m n : ℕ) → m ≡ min at (length bs) → n ≡ min (length bs - m) w → i < w
+    → get_or (take n (drop m bs) ++ drop n (replicate w 0)) i 0 ≡ get_or bs (at + i) 0
+padded bs at w i m n start count low =
+    let front : length (take n (drop m bs)) ≡ n = length-take-le n (drop m bs) (omega (arith, length-drop m bs)) in
+    ⊎_elim
+    (λ h.
+    let place : m + i ≡ at + i = omega arith in
+    get_or_append_left (take n (drop m bs)) (drop n (replicate w 0)) 0 i (omega arith) ∙ get_or-take n (drop m bs) i 0 h ∙ get_or-drop m bs i 0
+    ∙ ap (λ j. get_or bs j 0) place)
+    (λ h.
+    get_or-append_right (take n (drop m bs)) (drop n (replicate w 0)) n i 0 front h ∙ get_or-drop n (replicate w 0) (i - n) 0
+    ∙ get_or-replicate w (n + (i - n)) 0 0 (omega arith) ∙ sym (get_or_past bs (at + i) 0 (omega arith))) (cases_lt i n)

@@ -83,7 +83,7 @@ effects_back (suc n) (a ∷ b ∷ es) h =
     let ih = effects_back n es (omega arith) in
     (ap (λ l. expr_bytes a ++ (expr_bytes b ++ l)) ih.0, ap (λ t. expr_fits a && (expr_fits b && t)) ih.1, ap suc ih.2)
 
-exprs_wrote : (n : ℕ) (bs : List ℕ) (es : List Expr) (r : List ℕ) → all_below 256 bs ≡ true → read_exprs n bs ≡ got es r → Wrote bs (exprs_bytes es) (exprs_fit es) r
+pub exprs_wrote : (n : ℕ) (bs : List ℕ) (es : List Expr) (r : List ℕ) → all_below 256 bs ≡ true → read_exprs n bs ≡ got es r → Wrote bs (exprs_bytes es) (exprs_fit es) r
 exprs_wrote n bs es r al h = let p = wrote_exprs n bs es r al h in wrote bs (exprs_bytes es) (exprs_fit es) r al p.0 p.1
 
 rule_made :

@@ -48,7 +48,7 @@ rules_good k (u ∷ us) fit low h =
     and_from _ _ (and_from _ _ (and_from _ _ (at_most 256 u.first_bound a.0) (at_most 256 u.second_bound b.0)) (le-leb _ 255 (omega arith)))
     (and_from _ _ d.0 (and_from _ _ d.1 (rules_good (k + 1) us f.1 s.1 b.1)))
 
-game_good : (g : Game) → fits_bytes g ≡ true → shallow g ≡ true → excess g ≡ Deep → good_game g ≡ true
+pub game_good : (g : Game) → fits_bytes g ≡ true → shallow g ≡ true → excess g ≡ Deep → good_game g ≡ true
 unfolding fits_bytes shallow excess count_excess good_game
 game_good g fit low h =
     let f = and_parts (ltb g.players 256 && (ltb (length g.start) 65536 && all_below 65536 g.start)) _ fit in

@@ -1,15 +1,19 @@
--- A rule at a place of the bytes, step by step.
-use Rattle.std.proofs.Common.{◌≡◌, ℕ, zero, suc, ◌+◌, ◌-◌, ◌*◌, ◌<◌, ◌≤◌, Bool, true, false, ◌&&◌, leb, List, [], ◌∷◌, length, get_or, take, drop, sym, refl, ap, ◌∙◌, ⊎_elim, mul-le-mul, arith}
+-- A rule at the front of the bytes, step by step; and at a place of them.
+use Rattle.std.proofs.Common.{◌≡◌, ℕ, zero, suc, ◌+◌, ◌-◌, ◌*◌, ◌<◌, ◌≤◌, Bool, true, false, cond, not, ◌&&◌, ◌||◌, List, [], ◌∷◌, length, get_or, take, drop, Some, None, is_some, sym, refl, ap, ◌∙◌, ⊎_elim, arith}
+use Rattle.std.proofs.Math.Bool.{and-true}
 use Rattle.std.proofs.lemmas.Bool.{cond-true, cond-false, le-leb, lt-leb, cases_lt}
 use Rattle.std.proofs.lemmas.List.{drop_more, drop-drop, length-drop}
 use Rattle.rules.specs.Rules.{Expr, Rule}
-use Rattle.rules.specs.Bounds.{fits_depth, expr_parts, effect_parts, rule_parts, possible_moves, good_effects, good_rules}
-use Rattle.wire.specs.declared.games.Walk.{Walk}
+use Rattle.rules.specs.Bounds.{fits_depth, expr_parts, effect_parts, rule_parts, possible_moves, good_effects}
 use Rattle.wire.specs.Numbers.{bytes_value}
+use Rattle.wire.specs.Fields.{word_at}
 use Rattle.wire.specs.Exprs.{Parsed, got, unreadable, and_then, part, read_exprs}
+use Rattle.wire.specs.Excess.{bound_excess, shallow_rules}
 use Rattle.wire.specs.Games.{read_number, effects_of, read_rule, total_effects}
-use Rattle.wire.specs.GamesWalk.{exprs_parts, within_levels, Passed, word_at, RuleAt, BoundsAt}
+use Rattle.wire.specs.GamesWalk.{as_read, exprs_parts, within_levels, behind, rule_bound, one_total}
+use Rattle.wire.proofs.FieldLists as FieldLists
 use Rattle.wire.proofs.ExprsBack.{sized}
+use Rattle.wire.proofs.GamesHead.{none_read, was_read}
 
 -- the two bytes at i
 two_front : (bs : List ℕ) (i : ℕ) → i + 2 ≤ length bs → drop i bs ≡ get_or bs i 0 ∷ get_or bs (i + 1) 0 ∷ drop (i + 2) bs
@@ -79,36 +83,18 @@ module _ (bs : List ℕ) (i : ℕ) where
         first_bound_read (omega arith) ∙ ap (λ x. and_then x (after_second (word_at bs i))) (number_at 2 bs (i + 2) (omega arith))
         ∙ ap (λ n. after_second (word_at bs i) (word_at bs (i + 2)) (drop n bs)) four
 
-    pub no_guard : read_exprs 1 (drop (i + 4) bs) ≡ unreadable → read_rule (drop i bs) ≡ unreadable
-    no_guard h = bounds_read ∙ ap (λ x. and_then x (after_guard (word_at bs i) (word_at bs (i + 2)))) h
+-- the same at the front of the bytes
+pub word_short : (bs : List ℕ) → length bs < 2 → read_number 2 bs ≡ unreadable
+word_short bs h = number_short 2 bs 0 (omega arith)
 
-    module _ (p : ℕ) (es : List Expr) (guard : Passed bs (i + 4) 1 p es) where
-      guard_read : read_rule (drop i bs) ≡ after_guard (word_at bs i) (word_at bs (i + 2)) es (drop p bs)
-      guard_read = bounds_read ∙ ap (λ x. and_then x (after_guard (word_at bs i) (word_at bs (i + 2)))) guard.reads
+pub word_read : (bs : List ℕ) (n : ℕ) → n ≡ get_or bs 0 0 + 256 * get_or bs 1 0 → 2 ≤ length bs → got n (drop 2 bs) ≡ read_number 2 bs
+word_read bs n is h = ap (λ v. got v (drop 2 bs)) (is ∙ sym (FieldLists.word_is bs 0)) ∙ sym (number_at 2 bs 0 (omega arith))
 
-      pub no_count : length bs ≤ p → read_rule (drop i bs) ≡ unreadable
-      no_count h = guard_read ∙ ap (λ x. and_then x (after_count (word_at bs i) (word_at bs (i + 2)) es)) (number_short 1 bs p (omega arith))
+pub byte_read : (x : ℕ) (bs : List ℕ) → read_number 1 (x ∷ bs) ≡ got x bs
+byte_read x bs = number_at 1 (x ∷ bs) 0 (omega arith) ∙ ap (λ n. got n bs) (byte_is (x ∷ bs) 0 (omega arith))
 
-      module _ (some : p < length bs) where
-        count_read : read_rule (drop i bs) ≡ after_count (word_at bs i) (word_at bs (i + 2)) es (get_or bs p 0) (drop (p + 1) bs)
-        count_read =
-            guard_read ∙ ap (λ x. and_then x (after_count (word_at bs i) (word_at bs (i + 2)) es)) (number_at 1 bs p (omega arith))
-            ∙ ap (λ n. after_count (word_at bs i) (word_at bs (i + 2)) es n (drop (p + 1) bs)) (byte_is bs p some)
-
-        pub no_effects : read_exprs (2 * get_or bs p 0) (drop (p + 1) bs) ≡ unreadable → read_rule (drop i bs) ≡ unreadable
-        no_effects h = count_read ∙ ap (λ x. and_then x (after_effects (word_at bs i) (word_at bs (i + 2)) es)) h
-
-        rule_read :
-            (e : ℕ) (fs : List Expr) → read_exprs (2 * get_or bs p 0) (drop (p + 1) bs) ≡ got fs (drop e bs)
-            → read_rule (drop i bs) ≡ got (rule_of (word_at bs i) (word_at bs (i + 2)) es fs) (drop e bs)
-        rule_read e fs h = count_read ∙ ap (λ x. and_then x (after_effects (word_at bs i) (word_at bs (i + 2)) es)) h
-
-pub and_true : (x : Bool) → x ≡ (x && true)
-and_true true = refl
-and_true false = refl
-
-with_few : (a c d e : Bool) → c ≡ true → (a && (d && e)) ≡ ((a && c) && (d && (e && true)))
-with_few a c d e h = λ j. (and_true a ∙ ap (λ t. a && t) (sym h)) j && (d && and_true e j)
+pub no_byte : (bs : List ℕ) → length bs ≡ 0 → read_number 1 bs ≡ unreadable
+no_byte bs h = number_short 1 bs 0 (omega arith)
 
 -- expressions by twos, counted
 effects_counted :
@@ -126,49 +112,82 @@ effects_counted (suc n) (a ∷ b ∷ fs) h =
 guard_counted : (es : List Expr) → length es ≡ 1 → (expr_parts (part es 0) ≡ exprs_parts es) × (fits_depth (part es 0) 32 ≡ within_levels 33 es)
 unfolding exprs_parts within_levels
 guard_counted [] h = absurd (omega arith)
-guard_counted (a ∷ []) h = (omega arith, and_true (fits_depth a 32))
+guard_counted (a ∷ []) h = (omega arith, sym (and-true (fits_depth a 32)))
 guard_counted (a ∷ b ∷ es) h = absurd (omega arith)
 
--- a rule that was read, with what was counted on the way
-module _
-    (bs : List ℕ) (i p e first second g x : ℕ) (es fs : List Expr) (good : Bool) (long : i + 4 ≤ length bs) (is_first : first ≡ word_at bs i)
-    (is-second : second ≡ word_at bs (i + 2)) (low_first : first < 65536) (low_second : second < 65536) (guard : Passed bs (i + 4) 1 p es)
-    (guard-parts : g ≡ exprs_parts es) (guard-few : g ≤ p - (i + 4)) (some : p < length bs) (byte : get_or bs p 0 < 256)
-    (effects : Passed bs (p + 1) (2 * get_or bs p 0) e fs) (effects-parts : x ≡ exprs_parts fs) (effects-few : x ≤ e - (p + 1))
-    (fits : good ≡ ((leb first 256 && leb second 256) && (within_levels 33 es && within_levels 33 fs)))
-  where
-    abbrev walked : Walk
-    walked = record { end = e; effects = get_or bs p 0; moves = first * second; parts = 1 + g + get_or bs p 0 + x; good = good }
+-- whether expressions are too deep, by the bytes behind them
+pub is_fit : {X : Type 0} (t : Bool) (x : X) → is_some (cond t (Some x) None) ≡ t
+is_fit true x = refl
+is_fit false x = refl
 
-    pub rule_found : (u : Rule) × RuleAt bs i walked u × BoundsAt bs i walked u
-    unfolding total_effects possible_moves rule_parts good_rules
-    rule_found =
-        let n : ℕ = get_or bs p 0 in
-        let u : Rule = rule_of (word_at bs i) (word_at bs (i + 2)) es fs in
-        let one = guard_counted es (sized 1 (drop (i + 4) bs) es (drop p bs) guard.reads).0 in
-        let size = sized (2 * n) (drop (p + 1) bs) fs (drop e bs) effects.reads in
-        let twos = effects_counted n fs size.0 in
-        let few : leb (length u.effects) 255 ≡ true = le-leb _ 255 (omega (arith, twos.0)) in
-        let most-first : first ≤ 65535 = omega arith in
-        let most-second : second ≤ 65535 = omega arith in
-        let product : first * second ≤ 65535 * 65535 = mul-le-mul most-first most-second in (
-          u,
-          record {
-            reads = rule_read bs i long p es guard some e fs effects.reads;
-            inside = effects.inside;
-            counted = record {
-              many = refl;
-              effects = omega (arith, twos.0);
-              moves = let m : first * second ≡ u.first_bound * u.second_bound = (λ j. is_first j * is-second j) in omega arith;
-              parts = omega (arith, one.0, twos.1);
-              good =
-                  fits ∙ (λ j. (leb (is_first j) 256 && leb (is-second j) 256) && (sym one.1 j && sym twos.2 j))
-                  ∙ with_few (leb u.first_bound 256 && leb u.second_bound 256) _ (fits_depth u.guard 32) (good_effects u.effects) few;
-              few_effects = omega arith;
-              few_moves = omega arith;
-              few_parts = omega (arith, size.1, length-drop (p + 1) bs, length-drop e bs, guard.after, effects.after, effects.inside);
-              after = omega (arith, guard.after, effects.after);
-            };
-          },
-          record { first = refl; second = refl; bounds = omega (arith, guard.after, effects.after) },
-        )
+pub either_not : (a b : Bool) → (not a || not b) ≡ not (a && b)
+either_not true true = refl
+either_not true false = refl
+either_not false b = refl
+
+-- a rule, part by part
+pub no_first : (bs : List ℕ) → unreadable ≡ read_number 2 bs → read_rule bs ≡ unreadable
+unfolding read_rule
+no_first bs h = ap (λ x. and_then x after_first) (sym h)
+
+module _ (bs r₁ : List ℕ) (a : ℕ) (first : got a r₁ ≡ read_number 2 bs) where
+  first_read : read_rule bs ≡ after_first a r₁
+  unfolding read_rule
+  first_read = ap (λ x. and_then x after_first) (sym first)
+
+  pub no_second : unreadable ≡ read_number 2 r₁ → read_rule bs ≡ unreadable
+  no_second h = first_read ∙ ap (λ x. and_then x (after_second a)) (sym h)
+
+  module _ (r₂ : List ℕ) (b : ℕ) (second : got b r₂ ≡ read_number 2 r₁) where
+    second_read : read_rule bs ≡ after_second a b r₂
+    second_read = first_read ∙ ap (λ x. and_then x (after_second a)) (sym second)
+
+    pub no_guard : unreadable ≡ as_read exprs_parts (read_exprs 1 r₂) → read_rule bs ≡ unreadable
+    no_guard h = second_read ∙ ap (λ x. and_then x (after_guard a b)) (none_read exprs_parts _ h)
+
+    module _ (r₃ : List ℕ) (g : ℕ) (guard : got g r₃ ≡ as_read exprs_parts (read_exprs 1 r₂)) where
+      guards : List Expr
+      guards = (was_read exprs_parts (read_exprs 1 r₂) g r₃ guard).0
+
+      guard_read : read_rule bs ≡ after_guard a b guards r₃
+      unfolding guards
+      guard_read = second_read ∙ ap (λ x. and_then x (after_guard a b)) (was_read exprs_parts (read_exprs 1 r₂) g r₃ guard).1
+
+      pub no_count : length r₃ ≡ 0 → read_rule bs ≡ unreadable
+      no_count h = guard_read ∙ ap (λ x. and_then x (after_count a b guards)) (no_byte r₃ h)
+
+      module _ (r₄ : List ℕ) (n : ℕ) (count : r₃ ≡ n ∷ r₄) where
+        count_read : read_rule bs ≡ after_count a b guards n r₄
+        count_read = guard_read ∙ ap (λ x. and_then x (after_count a b guards)) (ap (read_number 1) count ∙ byte_read n r₄)
+
+        pub no_effects : unreadable ≡ as_read exprs_parts (read_exprs (2 * n) r₄) → read_rule bs ≡ unreadable
+        no_effects h = count_read ∙ ap (λ x. and_then x (after_effects a b guards)) (none_read exprs_parts _ h)
+
+        module _ (r₅ : List ℕ) (x : ℕ) (effects : got x r₅ ≡ as_read exprs_parts (read_exprs (2 * n) r₄)) where
+          values : List Expr
+          values = (was_read exprs_parts (read_exprs (2 * n) r₄) x r₅ effects).0
+
+          rule_read : read_rule bs ≡ got (rule_of a b guards values) r₅
+          unfolding values
+          rule_read = count_read ∙ ap (λ y. and_then y (after_effects a b guards)) (was_read exprs_parts (read_exprs (2 * n) r₄) x r₅ effects).1
+
+          pub rule_found :
+              (k : ℕ) (deep : Bool) → deep ≡ (not (is_some (behind 33 (read_exprs 1 r₂))) || not (is_some (behind 33 (read_exprs (2 * n) r₄))))
+              → got (record { effects = n; moves = a * b; parts = 1 + g + n + x; bound = rule_bound k a b; deep = deep }) r₅ ≡ as_read (one_total k) (read_rule bs)
+          unfolding guards values total_effects possible_moves rule_parts bound_excess shallow_rules
+          rule_found k deep is =
+              let G = was_read exprs_parts (read_exprs 1 r₂) g r₃ guard in
+              let V = was_read exprs_parts (read_exprs (2 * n) r₄) x r₅ effects in
+              let one = guard_counted G.0 (sized 1 r₂ G.0 r₃ G.1).0 in
+              let twos = effects_counted n V.0 (sized (2 * n) r₄ V.0 r₅ V.1).0 in
+              let u : Rule = rule_of a b G.0 V.0 in
+              let count : n ≡ length u.effects + 0 = omega (arith, twos.0) in
+              let moves : a * b ≡ a * b + 0 = omega arith in
+              let parts : 1 + g + n + x ≡ 1 + expr_parts u.guard + effect_parts u.effects + 0 = omega (arith, G.2, V.2, one.0, twos.1) in
+              let depth : deep ≡ not ((fits_depth u.guard 32 && good_effects u.effects) && true) =
+              is ∙ (λ i. not (is_some (behind 33 (G.1 i))) || not (is_some (behind 33 (V.1 i))))
+              ∙ (λ i. not (is_fit (within_levels 33 G.0) r₃ i) || not (is_fit (within_levels 33 V.0) r₅ i))
+              ∙ either_not (within_levels 33 G.0) (within_levels 33 V.0)
+              ∙ (λ i. not (sym one.1 i && sym twos.2 i)) ∙ ap not (sym (and-true (fits_depth u.guard 32 && good_effects u.effects))) in
+              (λ i. got (record { effects = count i; moves = moves i; parts = parts i; bound = rule_bound k a b; deep = depth i }) r₅)
+              ∙ sym (ap (as_read (one_total k)) rule_read)

@@ -1,80 +1,86 @@
--- How deep expressions are, found by reading them level by level.
-use Rattle.std.proofs.Common.{◌≡◌, ℕ, suc, ◌-◌, ◌<◌, ◌≤◌, true, ◌&&◌, List, [], ◌∷◌, ◌++◌, length, drop, Some, None, Option, sym, refl, ap, ◌∙◌, subst, arith}
-use Rattle.std.proofs.lemmas.Bool.{and_from, and_left, and_right}
+-- How deep expressions are, found by passing over them level by level.
+use Rattle.std.proofs.Common.{◌≡◌, ℕ, suc, ◌+◌, Bool, true, false, cond, ◌&&◌, List, [], ◌∷◌, ◌++◌, length, Some, None, sym, refl, ap, ◌∙◌, arith}
+use Rattle.std.specs.Prelude.{option_and_then}
 use Rattle.std.proofs.lemmas.List.{take_at, drop_at}
 use Rattle.rules.specs.Rules.{Expr}
+use Rattle.rules.specs.Bounds.{fits_depth, all_below}
 use Rattle.wire.specs.Exprs.{Parsed, got, unreadable, and_then, Kind, join, read_exprs}
-use Rattle.wire.specs.GamesWalk.{within_levels, Begins, Passed, Shallow}
+use Rattle.wire.specs.GamesWalk.{as_read, read_head, arity_of, within_levels, behind}
 use Rattle.wire.proofs.Exprs.{joined}
-use Rattle.wire.proofs.ExprsBack.{with_got, not_got, same_got, sized, reads_in_turns}
+use Rattle.wire.proofs.ExprsBack.{sized, reads_in_turns}
+use Rattle.wire.proofs.GamesBack.{exprs_wrote}
+use Rattle.wire.proofs.GamesHead.{head_levels, by_parts}
 
-pub no_expression : (bs : List ℕ) (i l : ℕ) → i ≤ length bs → Shallow bs i 0 l (Some i)
-unfolding read_exprs within_levels
-no_expression bs i l h = ([], record { reads = refl; after = omega arith; inside = h }, refl)
-
-pub no_level : (bs : List ℕ) (i m : ℕ) → Shallow bs i (suc m) 0 None
+pub no_level : (m : ℕ) (bs : List ℕ) → None ≡ behind 0 (read_exprs (suc m) bs)
 unfolding within_levels
-no_level bs i m [] q h = let s = sized (suc m) (drop i bs) [] q h in absurd (omega arith)
-no_level bs i m (e ∷ es) q h = refl
+no_level m bs = go (read_exprs (suc m) bs) refl
+  where
+    go : (p : Parsed (List Expr)) → read_exprs (suc m) bs ≡ p → None ≡ behind 0 p
+    go unreadable e = refl
+    go (got [] q) e = let s = sized (suc m) bs [] q e in absurd (omega arith)
+    go (got (x ∷ es) q) e = refl
 
-pub no_head : (bs : List ℕ) (i m l : ℕ) → ((m : ℕ) → read_exprs (suc m) (drop i bs) ≡ unreadable) → Shallow bs i (suc m) l None
-no_head bs i m l none es q h = absurd (not_got es q (sym (none m) ∙ h))
-
-module _ (bs : List ℕ) (i j n m l : ℕ) (k : Kind) (b : Begins bs i j n k) where
+module _ (bs : List ℕ) (n : ℕ) (r : List ℕ) (m l : ℕ) (small : all_below 256 bs ≡ true) (head : got n r ≡ as_read arity_of (read_head bs)) where
   -- its parts first, then the expressions after it
   in_parts :
-      read_exprs (suc m) (drop i bs)
-      ≡ and_then (read_exprs n (drop j bs)) (λ gs q. and_then (read_exprs m q) (λ hs s. got (k.make gs ∷ hs) s))
+      (k : Kind) → n ≡ k.arity → ((m : ℕ) → read_exprs (suc m) bs ≡ joined k (read_exprs (n + m) r))
+      → read_exprs (suc m) bs ≡ and_then (read_exprs n r) (λ gs q. and_then (read_exprs m q) (λ hs s. got (k.make gs ∷ hs) s))
   unfolding join
-  in_parts = b.reads m ∙ ap (joined k) (reads_in_turns n m (drop j bs)) ∙ go (read_exprs n (drop j bs)) refl
+  in_parts k is reads = reads m ∙ ap (joined k) (reads_in_turns n m r) ∙ go (read_exprs n r) refl
     where
       after : (gs : List Expr) → length gs ≡ k.arity → (p : Parsed (List Expr))
           → joined k (and_then p (λ hs s. got (gs ++ hs) s)) ≡ and_then p (λ hs s. got (k.make gs ∷ hs) s)
       after gs len (got hs s) = λ x. got (k.make (take_at gs hs k.arity len x) ∷ drop_at gs hs k.arity len x) s
       after gs len unreadable = refl
 
-      go : (p : Parsed (List Expr)) → read_exprs n (drop j bs) ≡ p
+      go : (p : Parsed (List Expr)) → read_exprs n r ≡ p
           → joined k (and_then p (λ gs q. and_then (read_exprs m q) (λ hs s. got (gs ++ hs) s)))
           ≡ and_then p (λ gs q. and_then (read_exprs m q) (λ hs s. got (k.make gs ∷ hs) s))
-      go (got gs q) e = after gs ((sized n (drop j bs) gs q e).0 ∙ b.arity) (read_exprs m q)
+      go (got gs q) e = after gs ((sized n r gs q e).0 ∙ is) (read_exprs m q)
       go unreadable e = refl
 
-  -- what was read from here on is an expression, made of what was read as its parts, and others
-  levels_of :
-      (gs hs : List Expr) (q : List ℕ) → read_exprs n (drop j bs) ≡ got gs q
-      → within_levels (suc l) (k.make gs ∷ hs) ≡ (within_levels l gs && within_levels (suc l) hs)
+  -- an expression has at most a level more than its parts
+  behind_step : behind (suc l) (read_exprs (suc m) bs) ≡ option_and_then (λ q. behind (suc l) (read_exprs m q)) (behind l (read_exprs n r))
   unfolding within_levels
-  levels_of gs hs q e = ap (λ t. t && within_levels (suc l) hs) (b.levels gs (sized n (drop j bs) gs q e).0 l)
+  behind_step =
+      let x = by_parts bs n r head in
+      ap (behind (suc l)) (in_parts x.0 x.2 x.3) ∙ go x.0 x.2 (head_levels bs x.0 r small x.1).0 (read_exprs n r) refl
+    where
+      one : (k : Kind) (gs : List Expr) (t : Bool) (q : List ℕ) → fits_depth (k.make gs) l ≡ t → (p : Parsed (List Expr)) → read_exprs m q ≡ p
+          → behind (suc l) (and_then p (λ hs s. got (k.make gs ∷ hs) s)) ≡ option_and_then (λ q. behind (suc l) (read_exprs m q)) (cond t (Some q) None)
+      one k gs true q h (got hs s) e = ap (λ b. cond (b && within_levels (suc l) hs) (Some s) None) h ∙ sym (ap (behind (suc l)) e)
+      one k gs true q h unreadable e = sym (ap (behind (suc l)) e)
+      one k gs false q h (got hs s) e = ap (λ b. cond (b && within_levels (suc l) hs) (Some s) None) h
+      one k gs false q h unreadable e = refl
 
-  pub parts_deep : Shallow bs j n l None → Shallow bs i (suc m) (suc l) None
-  parts_deep deep es q h =
-      with_got (read_exprs n (drop j bs)) _ es q _ (sym in_parts ∙ h) (λ gs r e₁ h₁. with_got (read_exprs m r) _ es q _ h₁ (λ hs s e₂ h₂.
-      ap (within_levels (suc l)) (sym (same_got (k.make gs ∷ hs) es s q h₂).0) ∙ levels_of gs hs r e₁ ∙ and_left _ _ (deep gs r e₁)))
+      go : (k : Kind) → n ≡ k.arity → ((es : List Expr) → length es ≡ k.arity → (l : ℕ) → fits_depth (k.make es) l ≡ within_levels l es)
+          → (p : Parsed (List Expr)) → read_exprs n r ≡ p
+          → behind (suc l) (and_then p (λ gs q. and_then (read_exprs m q) (λ hs s. got (k.make gs ∷ hs) s)))
+          ≡ option_and_then (λ q. behind (suc l) (read_exprs m q)) (behind l p)
+      go k is law unreadable e = refl
+      go k is law (got gs q) e = one k gs (within_levels l gs) q (law gs ((sized n r gs q e).0 ∙ is) l) (read_exprs m q) refl
 
-  module _ (p : ℕ) (gs : List Expr) (first : Passed bs j n p gs) (fit : within_levels l gs ≡ true) where
-    first_read : read_exprs (suc m) (drop i bs) ≡ and_then (read_exprs m (drop p bs)) (λ hs s. got (k.make gs ∷ hs) s)
-    first_read = in_parts ∙ ap (λ x. and_then x (λ gs q. and_then (read_exprs m q) (λ hs s. got (k.make gs ∷ hs) s))) first.reads
+  -- the same, as code has the counts
+  module _ (p v : ℕ) (more : suc m ≡ p) (levels : suc l ≡ v) where
+    next : behind v (read_exprs p bs) ≡ option_and_then (λ q. behind v (read_exprs m q)) (behind l (read_exprs n r))
+    next = (λ i. behind (sym levels i) (read_exprs (sym more i) bs)) ∙ behind_step ∙ (λ i. option_and_then (λ q. behind (levels i) (read_exprs m q)) (behind l (read_exprs n r)))
 
-    pub others_next : (r : Option ℕ) → Shallow bs p m (suc l) r → Shallow bs i (suc m) (suc l) r
-    others_next None deep = λ es q h.
-        with_got (read_exprs m (drop p bs)) _ es q _ (sym first_read ∙ h) (λ hs s e₂ h₂.
-        ap (within_levels (suc l)) (sym (same_got (k.make gs ∷ hs) es s q h₂).0) ∙ levels_of gs hs (drop p bs) first.reads
-        ∙ and_right _ _ (deep hs s e₂))
-    others_next (Some o) x =
-        let hs = x.0 in
-        let more = x.1 in (
-          k.make gs ∷ hs,
-          record {
-            reads = first_read ∙ ap (λ x. and_then x (λ hs s. got (k.make gs ∷ hs) s)) more.reads;
-            after = omega (arith, b.after, first.after, more.after);
-            inside = more.inside;
-          },
-          levels_of gs hs (drop p bs) first.reads ∙ and_from _ _ fit x.2,
-        )
+    pub deep_parts : None ≡ behind l (read_exprs n r) → None ≡ behind v (read_exprs p bs)
+    deep_parts h = ap (option_and_then (λ q. behind v (read_exprs m q))) h ∙ sym next
 
--- counts and levels that are not 0, as code has them
-pub at_more : (bs : List ℕ) (i n l : ℕ) (r : Option ℕ) → 0 < n → 0 < l → Shallow bs i (suc (n - 1)) (suc (l - 1)) r → Shallow bs i n l r
-at_more bs i n l r hn hl h =
-    let en : suc (n - 1) ≡ n = omega arith in
-    let el : suc (l - 1) ≡ l = omega arith in
-    subst (λ x. Shallow bs i x l r) en (subst (λ x. Shallow bs i (suc (n - 1)) x r) el h)
+    pub past_parts : (q : List ℕ) → Some q ≡ behind l (read_exprs n r) → behind v (read_exprs m q) ≡ behind v (read_exprs p bs)
+    past_parts q h = ap (option_and_then (λ q. behind v (read_exprs m q))) h ∙ sym next
+
+  pub rest_below : (q : List ℕ) → Some q ≡ behind l (read_exprs n r) → all_below 256 q ≡ true
+  rest_below q h = go (read_exprs n r) refl h
+    where
+      small_parts : all_below 256 r ≡ true
+      small_parts = let x = by_parts bs n r head in (head_levels bs x.0 r small x.1).1
+
+      fit : (es : List Expr) (s : List ℕ) (t : Bool) → read_exprs n r ≡ got es s → Some q ≡ cond t (Some s) None → all_below 256 q ≡ true
+      fit es s true e h = let same : q ≡ s = cc in ap (all_below 256) same ∙ (exprs_wrote n r es s small_parts e).left
+      fit es s false e h = let z : ◌≡◌ {A = ℕ} 0 1 = cc in absurd (omega arith)
+
+      go : (p : Parsed (List Expr)) → read_exprs n r ≡ p → Some q ≡ behind l p → all_below 256 q ≡ true
+      go (got es s) e h = fit es s (within_levels l es) e h
+      go unreadable e h = let z : ◌≡◌ {A = ℕ} 0 1 = cc in absurd (omega arith)

@@ -1,42 +1,45 @@
 -- All bytes of a game, step by step.
-use Rattle.std.proofs.Common.{◌≡◌, ℕ, zero, suc, ◌+◌, ◌-◌, ◌*◌, ◌<◌, ◌≤◌, Bool, ◌&&◌, List, [], ◌∷◌, length, get_or, drop, None, sym, refl, ap, ◌∙◌, ⊎_elim, arith}
+use Rattle.std.proofs.Common.{◌≡◌, ℕ, zero, suc, ◌+◌, ◌*◌, ◌<◌, ◌≤◌, Bool, not, ◌&&◌, ◌||◌, List, [], ◌∷◌, length, take, drop, Some, None, is_some, sym, refl, ap, ◌∙◌, ⊎_elim, arith}
+use Rattle.std.specs.Prelude.{option_map}
+use Rattle.std.proofs.Math.Bool.{and-true}
 use Rattle.std.proofs.lemmas.Bool.{cases_lt}
-use Rattle.std.proofs.lemmas.List.{drop_more, drop_all}
+use Rattle.std.proofs.lemmas.List.{drop-drop, length-drop}
 use Rattle.rules.specs.Rules.{Expr, Rule, Game}
 use Rattle.rules.specs.Bounds.{fits_depth, expr_parts, game_parts}
-use Rattle.wire.specs.declared.games.Walk.{Walk}
-use Rattle.wire.specs.declared.games.Found.{Found}
+use Rattle.wire.specs.declared.walks.Totals.{Totals}
+use Rattle.wire.specs.Numbers.{bytes_value}
 use Rattle.wire.specs.Exprs.{Parsed, got, unreadable, and_then, part, read_exprs}
+use Rattle.wire.specs.Excess.{shallow_rules, shallow}
 use Rattle.wire.specs.Games.{read_number, read_cells, read_rules, read_game, whole, parse_game}
-use Rattle.wire.specs.GamesWalk.{exprs_parts, within_levels, Passed, word_at, RulesAt, GameIn, RulesIn}
+use Rattle.wire.specs.GamesWalk.{as_read, exprs_parts, within_levels, behind, totals_of, found_of}
 use Rattle.wire.proofs.ExprsBack.{sized}
-use Rattle.wire.proofs.GamesRule.{and_true, number_at, number_short, byte_is}
+use Rattle.wire.proofs.GamesHead.{none_read, was_read}
+use Rattle.wire.proofs.GamesRule.{number_at, word_short, byte_read, no_byte, is_fit, either_not}
+use Rattle.wire.proofs.GamesRules.{rules_sized}
 
 -- cells of two bytes each
-pub cells_at :
-    (n : ℕ) (bs : List ℕ) (i : ℕ) → i + 2 * n ≤ length bs
-    → (cs : List ℕ) × (read_cells n (drop i bs) ≡ got cs (drop (i + 2 * n) bs)) × (length cs ≡ n)
+cells_there : (n : ℕ) (bs : List ℕ) → 2 * n ≤ length bs → (cs : List ℕ) × (read_cells n bs ≡ got cs (drop (2 * n) bs)) × (length cs ≡ n)
 unfolding read_cells
-cells_at zero bs i h = let e : i ≡ i + 2 * 0 = omega arith in ([], ap (λ k. got [] (drop k bs)) e, refl)
-cells_at (suc n) bs i h =
-    let c : ℕ = word_at bs i in
-    let more = cells_at n bs (i + 2) (omega arith) in
-    let e : i + 2 + 2 * n ≡ i + 2 * suc n = omega arith in (
+cells_there zero bs h = ([], refl, refl)
+cells_there (suc n) bs h =
+    let c : ℕ = bytes_value (take 2 bs) in
+    let more = cells_there n (drop 2 bs) (omega (arith, length-drop 2 bs)) in
+    let rest : drop (2 * n) (drop 2 bs) ≡ drop (2 * suc n) bs = drop-drop (2 * n) 2 bs ∙ ap (λ k. drop k bs) (omega arith) in (
       c ∷ more.0,
-      ap (λ x. and_then x (λ c r. and_then (read_cells n r) (λ cs q. got (c ∷ cs) q))) (number_at 2 bs i (omega arith))
-          ∙ ap (λ x. and_then x (λ cs q. got (c ∷ cs) q)) more.1 ∙ ap (λ k. got (c ∷ more.0) (drop k bs)) e,
+      ap (λ x. and_then x (λ c r. and_then (read_cells n r) (λ cs q. got (c ∷ cs) q))) (number_at 2 bs 0 (omega arith))
+          ∙ ap (λ x. and_then x (λ cs q. got (c ∷ cs) q)) more.1 ∙ ap (got (c ∷ more.0)) rest,
       ap suc more.2,
     )
 
-cells_short : (n : ℕ) (bs : List ℕ) (i : ℕ) → length bs - i < 2 * n → read_cells n (drop i bs) ≡ unreadable
+cells_short : (n : ℕ) (bs : List ℕ) → length bs < 2 * n → read_cells n bs ≡ unreadable
 unfolding read_cells
-cells_short zero bs i h = absurd (omega arith)
-cells_short (suc n) bs i h =
-    ⊎_elim (λ lt. ap (λ x. and_then x (λ c r. and_then (read_cells n r) (λ cs q. got (c ∷ cs) q))) (number_short 2 bs i (omega arith)))
+cells_short zero bs h = absurd (omega arith)
+cells_short (suc n) bs h =
+    ⊎_elim (λ lt. ap (λ x. and_then x (λ c r. and_then (read_cells n r) (λ cs q. got (c ∷ cs) q))) (word_short bs lt))
     (λ ge.
-    ap (λ x. and_then x (λ c r. and_then (read_cells n r) (λ cs q. got (c ∷ cs) q))) (number_at 2 bs i ge)
-    ∙ ap (λ x. and_then x (λ cs q. got (word_at bs i ∷ cs) q)) (cells_short n bs (i + 2) (omega arith)))
-    (cases_lt (length bs) (i + 2))
+    ap (λ x. and_then x (λ c r. and_then (read_cells n r) (λ cs q. got (c ∷ cs) q))) (number_at 2 bs 0 (omega arith))
+    ∙ ap (λ x. and_then x (λ cs q. got (bytes_value (take 2 bs) ∷ cs) q)) (cells_short n (drop 2 bs) (omega (arith, length-drop 2 bs))))
+    (cases_lt (length bs) 2)
 
 -- what is read, one part of a game after the other
 abbrev game_of : ℕ → List ℕ → List Rule → List Expr → Game
@@ -67,98 +70,95 @@ last_counted :
 unfolding exprs_parts within_levels
 last_counted [] h = absurd (omega arith)
 last_counted (a ∷ []) h = absurd (omega arith)
-last_counted (a ∷ b ∷ []) h = (omega arith, ap (λ t. fits_depth a 32 && t) (and_true (fits_depth b 32)))
+last_counted (a ∷ b ∷ []) h = (omega arith, ap (λ t. fits_depth a 32 && t) (sym (and-true (fits_depth b 32))))
 last_counted (a ∷ b ∷ c ∷ es) h = absurd (omega arith)
 
-no_game : (bs : List ℕ) → read_game bs ≡ unreadable → parse_game bs ≡ None
+pub no_game : (bs : List ℕ) → read_game bs ≡ unreadable → None ≡ option_map found_of (parse_game bs)
 unfolding parse_game
-no_game bs h = ap whole h
+no_game bs h = ap (λ p. option_map found_of (whole p)) (sym h)
 
-module _ (bs : List ℕ) where
-  players_read : 1 ≤ length bs → read_game bs ≡ after_players (get_or bs 0 0) (drop 1 bs)
+pub no_players : (bs : List ℕ) → length bs ≡ 0 → read_game bs ≡ unreadable
+unfolding read_game
+no_players bs h = ap (λ x. and_then x after_players) (no_byte bs h)
+
+module _ (bs r₁ : List ℕ) (p : ℕ) (players : bs ≡ p ∷ r₁) where
+  players_read : read_game bs ≡ after_players p r₁
   unfolding read_game
-  players_read h =
-      ap (λ x. and_then x after_players) (number_at 1 bs 0 (omega arith)) ∙ ap (λ p. after_players p (drop (0 + 1) bs)) (byte_is bs 0 (omega arith))
+  players_read = ap (λ x. and_then x after_players) (ap (read_number 1) players ∙ byte_read p r₁)
 
-  pub too_short : length bs < 3 → parse_game bs ≡ None
-  unfolding read_game
-  too_short h =
-      no_game bs (⊎_elim (λ lt. ap (λ x. and_then x after_players) (number_short 1 bs 0 (omega arith)))
-      (λ ge. players_read ge ∙ ap (λ x. and_then x (after_cell_count (get_or bs 0 0))) (number_short 2 bs 1 (omega arith)))
-      (cases_lt (length bs) 1))
+  pub no_cell_count : unreadable ≡ read_number 2 r₁ → read_game bs ≡ unreadable
+  no_cell_count h = players_read ∙ ap (λ x. and_then x (after_cell_count p)) (sym h)
 
-  module _ (n : ℕ) (is : n ≡ word_at bs 1) (long : 3 ≤ length bs) where
-    cell_count_read : read_game bs ≡ after_cell_count (get_or bs 0 0) n (drop 3 bs)
-    cell_count_read =
-        players_read (omega arith) ∙ ap (λ x. and_then x (after_cell_count (get_or bs 0 0))) (number_at 2 bs 1 (omega arith))
-        ∙ ap (λ k. after_cell_count (get_or bs 0 0) k (drop 3 bs)) (sym is)
+  module _ (r₂ : List ℕ) (n : ℕ) (cell_count : got n r₂ ≡ read_number 2 r₁) where
+    cell_count_read : read_game bs ≡ after_cell_count p n r₂
+    cell_count_read = players_read ∙ ap (λ x. and_then x (after_cell_count p)) (sym cell_count)
 
-    cells_read : (cs : List ℕ) → read_cells n (drop 3 bs) ≡ got cs (drop (3 + 2 * n) bs) → read_game bs ≡ after_cells (get_or bs 0 0) cs (drop (3 + 2 * n) bs)
-    cells_read cs h = cell_count_read ∙ ap (λ x. and_then x (after_cells (get_or bs 0 0))) h
+    pub no_cells : length r₂ < 2 * n → read_game bs ≡ unreadable
+    no_cells h = cell_count_read ∙ ap (λ x. and_then x (after_cells p)) (cells_short n r₂ h)
 
-    pub no_rule_count : length bs ≤ 3 + 2 * n → parse_game bs ≡ None
-    no_rule_count h =
-        no_game bs (⊎_elim (λ lt. cell_count_read ∙ ap (λ x. and_then x (after_cells (get_or bs 0 0))) (cells_short n bs 3 (omega arith)))
-        (λ ge. let cs = cells_at n bs 3 ge in
-        cells_read cs.0 cs.1 ∙ ap (λ x. and_then x (after_rule_count (get_or bs 0 0) cs.0)) (number_short 1 bs (3 + 2 * n) (omega arith)))
-        (cases_lt (length bs) (3 + 2 * n)))
-
-    module _ (some : 3 + 2 * n < length bs) where
-      enough : 3 + 2 * n ≤ length bs
-      enough = omega arith
-
+    module _ (r₃ : List ℕ) (long : 2 * n ≤ length r₂) (cells : r₃ ≡ drop (2 * n) r₂) where
       start : List ℕ
-      start = (cells_at n bs 3 enough).0
+      start = (cells_there n r₂ long).0
 
-      rule_count_read : read_game bs ≡ after_rule_count (get_or bs 0 0) start (get_or bs (3 + 2 * n) 0) (drop (3 + 2 * n + 1) bs)
+      cells_read : read_game bs ≡ after_cells p start r₃
       unfolding start
-      rule_count_read =
-          let cs = cells_at n bs 3 enough in
-          cells_read cs.0 cs.1 ∙ ap (λ x. and_then x (after_rule_count (get_or bs 0 0) cs.0)) (number_at 1 bs (3 + 2 * n) (omega arith))
-          ∙ ap (λ m. after_rule_count (get_or bs 0 0) cs.0 m (drop (3 + 2 * n + 1) bs)) (byte_is bs (3 + 2 * n) some)
+      cells_read =
+          let cs = cells_there n r₂ long in
+          cell_count_read ∙ ap (λ x. and_then x (after_cells p)) cs.1 ∙ ap (after_cells p cs.0) (sym cells)
 
-      pub no_rules_read : read_rules (get_or bs (3 + 2 * n) 0) (drop (3 + 2 * n + 1) bs) ≡ unreadable → parse_game bs ≡ None
-      no_rules_read h = no_game bs (rule_count_read ∙ ap (λ x. and_then x (after_rules (get_or bs 0 0) start)) h)
+      pub no_rule_count : length r₃ ≡ 0 → read_game bs ≡ unreadable
+      no_rule_count h = cells_read ∙ ap (λ x. and_then x (after_rule_count p start)) (no_byte r₃ h)
 
-      module _ (w : Walk) (us : List Rule) (rules : RulesAt bs (3 + 2 * n + 1) (get_or bs (3 + 2 * n) 0) w us) where
-        rules_read : read_game bs ≡ after_rules (get_or bs 0 0) start us (drop w.end bs)
-        rules_read = rule_count_read ∙ ap (λ x. and_then x (after_rules (get_or bs 0 0) start)) rules.reads
+      module _ (r₄ : List ℕ) (m : ℕ) (rule_count : r₃ ≡ m ∷ r₄) where
+        rule_count_read : read_game bs ≡ after_rule_count p start m r₄
+        rule_count_read = cells_read ∙ ap (λ x. and_then x (after_rule_count p start)) (ap (read_number 1) rule_count ∙ byte_read m r₄)
 
-        pub no_last : read_exprs 2 (drop w.end bs) ≡ unreadable → parse_game bs ≡ None
-        no_last h = no_game bs (rules_read ∙ ap (λ x. and_then x (after_last (get_or bs 0 0) start us)) h)
+        pub no_rules : unreadable ≡ as_read (totals_of 0) (read_rules m r₄) → read_game bs ≡ unreadable
+        no_rules h = rule_count_read ∙ ap (λ x. and_then x (after_rules p start)) (none_read (totals_of 0) _ h)
 
-        module _ (e x : ℕ) (es : List Expr) (last : Passed bs w.end 2 e es) (parts : x ≡ exprs_parts es) where
-          game_read : read_game bs ≡ got (game_of (get_or bs 0 0) start us es) (drop e bs)
-          game_read = rules_read ∙ ap (λ x. and_then x (after_last (get_or bs 0 0) start us)) last.reads
+        module _ (r₅ : List ℕ) (t : Totals) (rules : got t r₅ ≡ as_read (totals_of 0) (read_rules m r₄)) where
+          read : (us : List Rule) × (read_rules m r₄ ≡ got us r₅) × (t ≡ totals_of 0 us)
+          read = was_read (totals_of 0) (read_rules m r₄) t r₅ rules
 
-          pub left_over : e < length bs → parse_game bs ≡ None
-          unfolding parse_game
-          left_over h = ap whole (game_read ∙ ap (got (game_of (get_or bs 0 0) start us es)) (drop_more bs e 0 h))
+          rules_read : read_game bs ≡ after_rules p start read.0 r₅
+          rules_read = rule_count_read ∙ ap (λ x. and_then x (after_rules p start)) read.1
 
-          pub game_found :
-              (good shallow : Bool) → length bs ≤ e → shallow ≡ within_levels 33 es → good ≡ (w.good && shallow)
-              → let f : Found = record { players = get_or bs 0 0; cells = n; rules = get_or bs (3 + 2 * n) 0; effects = w.effects; moves = w.moves; parts = w.parts + x; good = good } in
-              (g : Game) × GameIn bs f g × RulesIn bs f g
-          unfolding parse_game game_parts start
-          game_found good shallow h fits is =
-              let g : Game = game_of (get_or bs 0 0) start us es in
-              let c = rules.counted in
-              let place : 3 + 2 * n + 1 ≡ 4 + 2 * n = omega arith in
-              let two = last_counted es (sized 2 (drop w.end bs) es (drop e bs) last.reads).0 in (
-                g,
-                record {
-                  reads = ap whole (game_read ∙ ap (got g) (drop_all e bs h));
-                  players = refl;
-                  cells = sym (cells_at n bs 3 enough).2;
-                  rules = sym c.many;
-                  effects = c.effects;
-                  moves = c.moves;
-                  parts = omega (arith, c.parts, two.0);
-                  good = is ∙ (λ j. c.good j && (fits ∙ sym two.1) j);
-                  few_effects = c.few_effects;
-                },
-                record {
-                  rules_inside = omega arith;
-                  rules_read = (drop w.end bs, ap (λ k. read_rules (get_or bs (3 + 2 * n) 0) (drop k bs)) (sym place) ∙ rules.reads);
-                },
-              )
+          pub no_last : unreadable ≡ as_read exprs_parts (read_exprs 2 r₅) → read_game bs ≡ unreadable
+          no_last h = rules_read ∙ ap (λ x. and_then x (after_last p start read.0)) (none_read exprs_parts _ h)
+
+          module _ (r₆ : List ℕ) (x : ℕ) (last : got x r₆ ≡ as_read exprs_parts (read_exprs 2 r₅)) where
+            ends : (es : List Expr) × (read_exprs 2 r₅ ≡ got es r₆) × (x ≡ exprs_parts es)
+            ends = was_read exprs_parts (read_exprs 2 r₅) x r₆ last
+
+            game_read : read_game bs ≡ got (game_of p start read.0 ends.0) r₆
+            game_read = rules_read ∙ ap (λ y. and_then y (after_last p start read.0)) ends.1
+
+            pub left_over : 0 < length r₆ → None ≡ option_map found_of (parse_game bs)
+            unfolding parse_game
+            left_over h = go r₆ h ∙ ap (λ y. option_map found_of (whole y)) (sym game_read)
+              where
+                go : (r : List ℕ) → 0 < length r → None ≡ option_map found_of (whole (got (game_of p start read.0 ends.0) r))
+                go [] h = absurd (omega arith)
+                go (b ∷ r) h = refl
+
+            pub game_found :
+                (deep : Bool) → length r₆ ≡ 0 → deep ≡ (t.deep || not (is_some (behind 33 (read_exprs 2 r₅))))
+                → Some (record { players = p; cells = n; rules = m; totals = record { effects = t.effects; moves = t.moves; parts = t.parts + x; bound = t.bound; deep = deep } })
+                ≡ option_map found_of (parse_game bs)
+            unfolding parse_game game_parts shallow found_of start
+            game_found deep h is =
+                let g : Game = game_of p (cells_there n r₂ long).0 read.0 ends.0 in
+                let two = last_counted ends.0 (sized 2 r₅ ends.0 r₆ ends.1).0 in
+                let count : n ≡ length g.start = sym (cells_there n r₂ long).2 in
+                let many : m ≡ length g.rules = sym (rules_sized m r₄ read.0 r₅ read.1) in
+                let parts : t.parts + x ≡ game_parts g = omega (arith, ap (λ s. s.parts) read.2, ends.2, two.0) in
+                let depth : deep ≡ not (shallow_rules g.rules && (fits_depth g.terminal 32 && fits_depth g.payoff 32)) =
+                is ∙ (λ i. (read.2 i).deep || not (is_some (behind 33 (ends.1 i)))) ∙ ap (λ b. not (shallow_rules g.rules) || not b) (is_fit (within_levels 33 ends.0) r₆)
+                ∙ either_not (shallow_rules g.rules) (within_levels 33 ends.0) ∙ ap (λ b. not (shallow_rules g.rules && b)) (sym two.1) in
+                (λ i. Some (record { players = p; cells = count i; rules = many i; totals = record { effects = (read.2 i).effects; moves = (read.2 i).moves; parts = parts i; bound = (read.2 i).bound; deep = depth i } }))
+                ∙ go r₆ h ∙ ap (λ y. option_map found_of (whole y)) (sym game_read)
+              where
+                go : (r : List ℕ) → length r ≡ 0
+                    → Some (found_of (game_of p (cells_there n r₂ long).0 read.0 ends.0)) ≡ option_map found_of (whole (got (game_of p (cells_there n r₂ long).0 read.0 ends.0) r))
+                go [] h = refl
+                go (b ∷ r) h = absurd (omega arith)

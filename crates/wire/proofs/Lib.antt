@@ -13,9 +13,8 @@ pub mod GamesRule
 pub mod GamesRules
 pub mod GamesWhole
 pub mod GamesCheck
-pub mod GamesExcess
 pub mod GamesDeep
+pub mod GamesExcess
 pub mod FieldLists
 pub mod CallBytes
-pub mod KindsParts
 pub mod Writing

@@ -2,6 +2,7 @@
 use Rattle.std.proofs.Common.{◌≡◌, ℕ, zero, suc, ◌+◌, ◌*◌, ◌/◌, ◌%◌, ◌^◌, ◌<◌, true, ltb, List, [], ◌∷◌, length, refl, ap, arith}
 use native.Mathlib.Nat.{pow-succ', pow-zero}
 use Rattle.std.proofs.lemmas.Bool.{and_parts, ltb-true}
+use Rattle.std.specs.Int.{bytes_low_first}
 use Rattle.rules.specs.Bounds.{all_below}
 use Rattle.wire.specs.Numbers.{number_bytes, bytes_value}
 
@@ -28,3 +29,11 @@ bytes_of_value (b ∷ bs) h =
     let low : (b + 256 * bytes_value bs) % 256 ≡ b = omega arith in
     let high : (b + 256 * bytes_value bs) / 256 ≡ bytes_value bs = omega arith in
     rw (low, high) (ap (λ l. b ∷ l) (bytes_of_value bs p.1))
+
+-- the bytes of a number as the library has them
+pub le_four : (n : ℕ) → bytes_low_first 0 4 n ≡ number_bytes 4 n
+unfolding number_bytes
+le_four n =
+    let b : n / 65536 % 256 ≡ n / 256 / 256 % 256 = omega arith in
+    let c : n / 16777216 % 256 ≡ n / 256 / 256 / 256 % 256 = omega arith in
+    λ i. n % 256 ∷ n / 256 % 256 ∷ b i ∷ c i ∷ []

@@ -22,10 +22,6 @@ call_bytes c = call_number c ∷ fields_bytes (call_fields c)
 abbrev pub field_count : ℕ → ℕ
 field_count k = cond (k == 1) 5 (cond (k == 5) 2 (cond (k == 6) 4 1))
 
--- bytes begin with the kind k of a call
-abbrev pub Known : List ℕ → ℕ → Type 0
-Known bs k = (0 < length bs) × (k ≡ slice_index bs 0) × (k ≤ 6)
-
 -- the call of kind k with the fields ns
 abbrev pub call_of : ℕ → List ℕ → Call
 call_of k ns =

@@ -11,6 +11,10 @@ fields_bytes (n ∷ ns) = number_bytes 4 n ++ fields_bytes ns
 unfoldable pub field_at : List ℕ → ℕ → ℕ
 field_at bs i = bytes_value (take 4 (drop i bs))
 
+-- the number in the two bytes from place i on; bytes that are not there count as 0
+abbrev pub word_at : List ℕ → ℕ → ℕ
+word_at bs i = bytes_value (take 2 (drop i bs))
+
 -- the n numbers that stand from place i on
 unfoldable pub fields_at : List ℕ → ℕ → ℕ → List ℕ
 fields_at bs i zero = []

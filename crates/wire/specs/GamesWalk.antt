@@ -1,12 +1,27 @@
 -- What the steps of checking a game find in its bytes. No reader has to believe these: the contract of the whole does not name them.
-use Rattle.std.specs.Prelude.{◌≡◌, ℕ, zero, suc, ◌+◌, ◌-◌, ◌*◌, ◌<◌, ◌≤◌, Bool, true, false, ◌&&◌, List, [], ◌∷◌, length, take, drop, Some, Option, MatchOption, nat_le}
-use Rattle.rules.specs.Rules.{Expr, Rule, Game}
-use Rattle.rules.specs.Bounds.{fits_depth, expr_parts, rule_parts, game_parts, possible_moves, good_rules}
-use Rattle.wire.specs.declared.games.Walk.{Walk}
-use Rattle.wire.specs.declared.games.Found.{Found}
+use Rattle.std.specs.Prelude.{ℕ, zero, suc, ◌+◌, ◌*◌, ◌^◌, ◌<◌, ◌≤◌, Bool, true, false, cond, not, ◌&&◌, ◌||◌, List, [], ◌∷◌, length, Some, None, Option, nat_lt}
+use Rattle.std.specs.Option.{option_or}
+use Rattle.std.specs.Borrow.{Bor}
+use Rattle.rules.specs.Rules.{Expr, Num, Rule, Game}
+use Rattle.rules.specs.Bounds.{fits_depth, expr_parts, rule_parts, game_parts, possible_moves}
+use Rattle.wire.specs.declared.excesses.Excess.{Excess}
+use Rattle.wire.specs.declared.excesses.Excess.TheVariants.{FirstBound, SecondBound, Deep}
+use Rattle.wire.specs.declared.walks.Totals.{Totals}
+use Rattle.wire.specs.declared.walks.Found.{Found}
 use Rattle.wire.specs.Numbers.{bytes_value}
-use Rattle.wire.specs.Games.{read_rule, read_rules, parse_game, total_effects}
-use Rattle.wire.specs.Exprs.{got, and_then, Kind, join, read_exprs}
+pub use Rattle.wire.specs.Fields.{word_at}
+use Rattle.wire.specs.Exprs.{Parsed, got, unreadable, and_then, Kind, alone, kind_after}
+use Rattle.wire.specs.Games.{total_effects}
+use Rattle.wire.specs.Excess.{count_excess, bound_excess, shallow_rules, shallow}
+
+-- what a step answers: None if nothing can be read, else what it found and the bytes that are left
+abbrev pub found : {A : Type 0} → Option (A × Bor (List ℕ)) → Parsed A
+found None = unreadable
+found (Some p) = got p.0 p.1.now
+
+-- what is made of what was read
+abbrev pub as_read : {A B : Type 0} → (A → B) → Parsed A → Parsed B
+as_read f p = and_then p (λ a r. got (f a) r)
 
 -- how many parts expressions have together
 unfoldable pub exprs_parts : List Expr → ℕ
@@ -19,79 +34,73 @@ within_levels l [] = true
 within_levels zero (e ∷ es) = false
 within_levels (suc l) (e ∷ es) = fits_depth e l && within_levels (suc l) es
 
--- the expression at i has kind k, and its n parts begin at j
-pub record Begins (bs : List ℕ) (i j n : ℕ) (k : Kind) : Type 0 where
-  pub reads : (m : ℕ) → read_exprs (suc m) (drop i bs) ≡ and_then (read_exprs (n + m) (drop j bs)) (λ es r. got (join k es) r)
-  pub arity : n ≡ k.arity
-  pub few : n ≤ 3
-  pub after : i < j
-  pub inside : j ≤ length bs
-  pub parts : (es : List Expr) → length es ≡ n → expr_parts (k.make es) ≡ suc (exprs_parts es)
-  pub levels : (es : List Expr) → length es ≡ n → (l : ℕ) → fits_depth (k.make es) l ≡ within_levels l es
+-- the kind of the expression at the front, and the bytes that its parts begin with
+unfoldable pub read_head : List ℕ → Parsed Kind
+read_head [] = unreadable
+read_head (zero ∷ []) = unreadable
+read_head (zero ∷ x ∷ []) = unreadable
+read_head (zero ∷ x ∷ y ∷ bs) = got (alone (Num (bytes_value (x ∷ y ∷ [])))) bs
+read_head (suc k ∷ bs) = cond (nat_lt k 12) (got (kind_after k) bs) unreadable
 
--- n expressions were read from i on, up to j
-pub record Passed (bs : List ℕ) (i n j : ℕ) (es : List Expr) : Type 0 where
-  pub reads : read_exprs n (drop i bs) ≡ got es (drop j bs)
-  pub after : i ≤ j
-  pub inside : j ≤ length bs
+abbrev pub arity_of : Kind → ℕ
+arity_of k = k.arity
 
--- where n expressions from i on end, if each has at most l levels
-abbrev pub Shallow : List ℕ → ℕ → ℕ → ℕ → Option ℕ → Type 0
-Shallow bs i n l r =
-    MatchOption r ((es : List Expr) (q : List ℕ) → read_exprs n (drop i bs) ≡ got es q → within_levels l es ≡ false)
-    (λ j. (es : List Expr) × Passed bs i n j es × (within_levels l es ≡ true))
+-- the bytes behind expressions, if each has at most l levels
+abbrev pub behind : ℕ → Parsed (List Expr) → Option (List ℕ)
+behind l unreadable = None
+behind l (got es r) = cond (within_levels l es) (Some r) None
 
--- the number in the two bytes at i
-abbrev pub word_at : List ℕ → ℕ → ℕ
-word_at bs i = bytes_value (take 2 (drop i bs))
+-- the first bound above 256 of a rule with the number n
+abbrev pub rule_bound : ℕ → ℕ → ℕ → Option Excess
+rule_bound n a b = cond (nat_lt 256 a) (Some (FirstBound n a)) (cond (nat_lt 256 b) (Some (SecondBound n b)) None)
 
--- what was counted on a walk over rules, from i on and of n rules
-pub record Counted (n i : ℕ) (w : Walk) (us : List Rule) : Type 0 where
-  pub many : length us ≡ n
-  pub effects : w.effects ≡ total_effects us
-  pub moves : w.moves ≡ possible_moves us
-  pub parts : w.parts ≡ rule_parts us
-  pub good : w.good ≡ good_rules us
-  pub few_effects : w.effects ≤ 255 * n
-  pub few_moves : w.moves ≤ 4294836225 * n
-  pub few_parts : w.parts ≤ 2 * (w.end - i)
-  pub after : i ≤ w.end
+abbrev pub plus : Totals → Totals → Totals
+plus a b = record {
+  effects = a.effects + b.effects;
+  moves = a.moves + b.moves;
+  parts = a.parts + b.parts;
+  bound = option_or a.bound b.bound;
+  deep = a.deep || b.deep;
+}
 
-pub record RuleAt (bs : List ℕ) (i : ℕ) (w : Walk) (u : Rule) : Type 0 where
-  pub reads : read_rule (drop i bs) ≡ got u (drop w.end bs)
-  pub inside : w.end ≤ length bs
-  pub counted : Counted 1 i w (u ∷ [])
+abbrev pub CanAdd : Totals → Totals → Type 0
+CanAdd a b = (a.effects + b.effects < 2 ^ 32) × (a.moves + b.moves < 2 ^ 64) × (a.parts + b.parts < 2 ^ 64)
 
--- the bounds of a rule at i stand in its first four bytes
-pub record BoundsAt (bs : List ℕ) (i : ℕ) (w : Walk) (u : Rule) : Type 0 where
-  pub first : word_at bs i ≡ u.first_bound
-  pub second : word_at bs (i + 2) ≡ u.second_bound
-  pub bounds : i + 4 ≤ w.end
+-- n rules that take the bytes from so many to so many have no more than this
+pub record Few (n : ℕ) (w : Totals) (from to : ℕ) : Type 0 where
+  pub effects : w.effects ≤ 255 * n
+  pub moves : w.moves ≤ 4294836225 * n
+  pub parts : w.parts + to ≤ from + 255 * n
 
-pub record RulesAt (bs : List ℕ) (i n : ℕ) (w : Walk) (us : List Rule) : Type 0 where
-  pub reads : read_rules n (drop i bs) ≡ got us (drop w.end bs)
-  pub inside : w.end ≤ length bs
-  pub counted : Counted n i w us
+-- what rules have together, the first of which has the number n
+abbrev pub totals_of : ℕ → List Rule → Totals
+totals_of n us = record {
+  effects = total_effects us;
+  moves = possible_moves us;
+  parts = rule_parts us;
+  bound = bound_excess n us;
+  deep = not (shallow_rules us);
+}
 
--- bytes are a game, and this was found in them
-pub record GameIn (bs : List ℕ) (f : Found) (g : Game) : Type 0 where
-  pub reads : parse_game bs ≡ Some g
-  pub players : f.players ≡ g.players
-  pub cells : f.cells ≡ length g.start
-  pub rules : f.rules ≡ length g.rules
-  pub effects : f.effects ≡ total_effects g.rules
-  pub moves : f.moves ≡ possible_moves g.rules
-  pub parts : f.parts ≡ game_parts g
-  pub good : f.good ≡ (good_rules g.rules && (fits_depth g.terminal 32 && fits_depth g.payoff 32))
-  pub few_effects : f.effects ≤ 255 * f.rules
+abbrev pub one_total : ℕ → Rule → Totals
+one_total n u = totals_of n (u ∷ [])
 
--- the rules of that game stand behind its cells
-pub record RulesIn (bs : List ℕ) (f : Found) (g : Game) : Type 0 where
-  pub rules_inside : 4 + 2 * f.cells ≤ length bs
-  pub rules_read : (q : List ℕ) × (read_rules f.rules (drop (4 + 2 * f.cells) bs) ≡ got g.rules q)
+-- what is found in the bytes of a game
+unfoldable pub found_of : Game → Found
+found_of g = record {
+  players = g.players;
+  cells = length g.start;
+  rules = length g.rules;
+  totals = record {
+    effects = total_effects g.rules;
+    moves = possible_moves g.rules;
+    parts = game_parts g;
+    bound = bound_excess 0 g.rules;
+    deep = not (shallow g);
+  };
+}
 
--- what was found keeps to the limits
-abbrev pub in_limits : Found → Bool
-in_limits f =
-    ((nat_le 1 f.players && nat_le f.players 4) && (nat_le 1 f.cells && nat_le f.cells 256))
-    && ((nat_le f.rules 64 && nat_le f.moves 4096) && (nat_le f.parts 16384 && f.good))
+-- the first limit that is broken
+abbrev pub found_excess : Found → Option Excess
+found_excess f =
+    option_or (count_excess f.players f.cells f.rules f.totals.moves f.totals.parts) (option_or f.totals.bound (cond f.totals.deep (Some Deep) None))

@@ -1,6 +1,7 @@
 pub mod Numbers
 pub mod Fields
 pub mod Calls
+pub mod CallKinds
 pub mod Exprs
 pub mod Kinds
 pub mod Games

@@ -1,51 +1,75 @@
 // Calls as bytes, read and written.
-ghost use Rattle.std.specs.Prelude.{◌≡◌, ◌+◌, ◌*◌, ◌≤◌, ◌∷◌, Err, MatchOption, ◌≢◌};
+ghost use Rattle.std.specs.Prelude.{◌≡◌, ◌∷◌};
 ghost use Rattle.wire.specs.Fields.{fields_at, fields_bytes, written, room};
-ghost use Rattle.wire.specs.Calls.{call_bytes, field_count, call_of, parse_call, Known};
+ghost use Rattle.wire.specs.Calls.{call_bytes, field_count, call_of, parse_call};
+ghost use Rattle.wire.specs.CallKinds.{byte_of, IsCallKind};
 ghost use Rattle.wire.specs.Calls.{CallReadsBack, CallWritesBack, CallPlaceIsLongestFront};
 
 use super::fields::{field_at, put_fields};
+use super::kinds::UnknownKind;
 use rules::{Call, Move};
 
-const LAST_KIND: u8 = 6;
-
-// The first byte, if it is the kind of a call.
-fn known_kind(bytes: &[u8]) -> Option<u8>
-    ensures { MatchOption result (parse_call bytes.now ≡ Err 0) (λ k. Known bytes.now k) }
-{
-    if bytes.len() == 0 {
-        return None;
-    }
-    let kind = bytes[0];
-    if kind <= LAST_KIND { Some(kind) } else { None }
+// The kinds of calls; as bytes they are the numbers from 0 on.
+#[derive(Clone, Copy)]
+enum CallKind {
+    Sit,
+    Play,
+    Ticks,
+    See,
+    May,
+    Back,
+    CanForce,
 }
 
-// How many fields a call of this kind has.
-fn count_fields(kind: u8) -> usize
-    ensures { result ≡ field_count kind }
+impl TryFrom<u8> for CallKind {
+    type Error = UnknownKind;
+
+    ghost try_from_gives = { IsCallKind };
+
+    fn try_from(byte: u8) -> Result<CallKind, UnknownKind> {
+        match byte {
+            0 => Ok(CallKind::Sit),
+            1 => Ok(CallKind::Play),
+            2 => Ok(CallKind::Ticks),
+            3 => Ok(CallKind::See),
+            4 => Ok(CallKind::May),
+            5 => Ok(CallKind::Back),
+            6 => Ok(CallKind::CanForce),
+            _ => Err(UnknownKind),
+        }
+    }
+}
+
+impl From<CallKind> for u8 {
+    ghost from_gives = { λ kind byte. byte ≡ byte_of kind };
+
+    fn from(kind: CallKind) -> u8 {
+        kind as u8
+    }
+}
+
+impl CallKind {
+    // How many fields a call of this kind has.
+    fn fields(self) -> usize
+        ensures { result ≡ field_count (byte_of self) }
+    {
+        match self {
+            CallKind::Play => 5,
+            CallKind::Back => 2,
+            CallKind::CanForce => 4,
+            CallKind::Sit | CallKind::Ticks | CallKind::See | CallKind::May => 1,
+        }
+    }
+}
+
+// The call of this kind whose fields follow the first byte.
+#[tactic(auto, unfolding(crate::specs::Fields::fields_at))]
+fn call_at(kind: CallKind, bytes: &[u8]) -> Call
+    ensures { result ≡ call_of (byte_of kind) (fields_at bytes.now 1 (field_count (byte_of kind))) }
 {
     match kind {
-        1 => 5,
-        5 => 2,
-        6 => 4,
-        _ => 1,
-    }
-}
-
-// So many bytes, if just so many are wanted.
-fn exactly(count: usize, wanted: usize) -> Option<usize>
-    ensures { MatchOption result (count ≢ wanted) (λ n. (n ≡ wanted) × (count ≡ wanted)) }
-{
-    if count == wanted { Some(count) } else { None }
-}
-
-// The call of this kind, one of 0 to 6, whose fields follow the first byte.
-fn call_at(kind: u8, bytes: &[u8]) -> Call
-    ensures { kind ≤ 6 → result ≡ call_of kind (fields_at bytes.now 1 (field_count kind)) }
-{
-    match kind {
-        0 => Call::Sit(field_at(bytes, 1)),
-        1 => Call::Play {
+        CallKind::Sit => Call::Sit(field_at(bytes, 1)),
+        CallKind::Play => Call::Play {
             table: field_at(bytes, 1),
             player: field_at(bytes, 5),
             played: Move {
@@ -54,14 +78,14 @@ fn call_at(kind: u8, bytes: &[u8]) -> Call
                 second: field_at(bytes, 17),
             },
         },
-        2 => Call::Ticks(field_at(bytes, 1)),
-        3 => Call::See(field_at(bytes, 1)),
-        4 => Call::May(field_at(bytes, 1)),
-        5 => Call::Back {
+        CallKind::Ticks => Call::Ticks(field_at(bytes, 1)),
+        CallKind::See => Call::See(field_at(bytes, 1)),
+        CallKind::May => Call::May(field_at(bytes, 1)),
+        CallKind::Back => Call::Back {
             table: field_at(bytes, 1),
             moves: field_at(bytes, 5),
         },
-        _ => Call::CanForce {
+        CallKind::CanForce => Call::CanForce {
             table: field_at(bytes, 1),
             player: field_at(bytes, 5),
             gain: field_at(bytes, 9),
@@ -74,58 +98,56 @@ fn call_at(kind: u8, bytes: &[u8]) -> Call
 pub fn read_call(bytes: &[u8]) -> Result<Call, usize>
     ensures { result ≡ parse_call bytes.now }
 {
-    let Some(kind) = known_kind(bytes) else {
-        return Err(0);
-    };
-    let wanted = 1 + 4 * count_fields(kind);
-    let Some(_) = exactly(bytes.len(), wanted) else {
+    let byte = *bytes.first().ok_or(0usize)?;
+    let kind = CallKind::try_from(byte).map_err(|_| 0usize)?;
+    let wanted = 1 + 4 * kind.fields();
+    if bytes.len() != wanted {
         return Err(bytes.len().min(wanted));
-    };
+    }
     Ok(call_at(kind, bytes))
 }
 
 // Writes a kind and its fields at the front, and says how many bytes they are; where they have no room nothing changes.
-fn write_kind(out: &mut [u8], kind: u8, fields: &[u32]) -> Option<usize>
-    ensures size { result ≡ room 0 (kind ∷ fields_bytes fields.now) out.old }
-    ensures bytes { out.new ≡ written 0 (kind ∷ fields_bytes fields.now) out.old }
+fn write_kind(out: &mut [u8], kind: CallKind, fields: &[u32]) -> Option<usize>
+    ensures size { result ≡ room 0 (byte_of kind ∷ fields_bytes fields.now) out.old }
+    ensures bytes { out.new ≡ written 0 (byte_of kind ∷ fields_bytes fields.now) out.old }
 {
-    if out.len() == 0 {
+    let size = 1 + 4 * fields.len();
+    if out.len() < size {
         return None;
     }
-    if (out.len() - 1) / 4 < fields.len() {
-        return None;
-    }
-    out[0] = kind;
+    out[0] = kind.into();
     put_fields(out, 1, fields);
-    Some(1 + 4 * fields.len())
+    Some(size)
 }
 
 // Writes a call at the front, and says how many bytes it is; where it has no room nothing changes.
+#[tactic(auto, unfolding(crate::specs::Calls::call_bytes, crate::specs::Calls::call_fields, rules::specs::Calls::call_number))]
 pub fn write_call(call: Call, out: &mut [u8]) -> Option<usize>
     ensures size { result ≡ room 0 (call_bytes call) out.old }
     ensures bytes { out.new ≡ written 0 (call_bytes call) out.old }
 {
     match call {
-        Call::Sit(ticks) => write_kind(out, 0, &[ticks]),
+        Call::Sit(ticks) => write_kind(out, CallKind::Sit, &[ticks]),
         Call::Play {
             table,
             player,
             played,
         } => write_kind(
             out,
-            1,
+            CallKind::Play,
             &[table, player, played.rule, played.first, played.second],
         ),
-        Call::Ticks(n) => write_kind(out, 2, &[n]),
-        Call::See(table) => write_kind(out, 3, &[table]),
-        Call::May(table) => write_kind(out, 4, &[table]),
-        Call::Back { table, moves } => write_kind(out, 5, &[table, moves]),
+        Call::Ticks(n) => write_kind(out, CallKind::Ticks, &[n]),
+        Call::See(table) => write_kind(out, CallKind::See, &[table]),
+        Call::May(table) => write_kind(out, CallKind::May, &[table]),
+        Call::Back { table, moves } => write_kind(out, CallKind::Back, &[table, moves]),
         Call::CanForce {
             table,
             player,
             gain,
             within,
-        } => write_kind(out, 6, &[table, player, gain, within]),
+        } => write_kind(out, CallKind::CanForce, &[table, player, gain, within]),
     }
 }
 

@@ -1,14 +1,22 @@
 // Which limit of a good game a game breaks.
-ghost use Rattle.std.specs.Prelude.{◌≡◌, ℕ, ◌+◌, ◌≤◌, List, length, drop};
-ghost use Rattle.rules.specs.Rules.{Rule};
-ghost use Rattle.wire.specs.Exprs.{got};
-ghost use Rattle.wire.specs.Games.{read_rules, parse_game};
-ghost use Rattle.wire.specs.Excess.{count_excess, bound_excess, excess_of, DeepIsDeep};
+ghost use Rattle.std.specs.Prelude.{◌≡◌};
+ghost use Rattle.wire.specs.Games.{parse_game};
+ghost use Rattle.wire.specs.Excess.{count_excess, excess_of, DeepIsDeep};
+ghost use Rattle.wire.specs.GamesWalk.{found_excess};
 
-use super::games::{
-    Found, MOST_BOUND, MOST_CELLS, MOST_MOVES, MOST_PARTS, MOST_PLAYERS, MOST_RULES, keeps_limits,
-    two_bytes, walk_game, walk_rule,
-};
+use super::walks::{Found, walk_game};
+use std::fmt;
+
+// The limits of a good game; walks knows that of bounds.
+const MOST_PLAYERS: u8 = 4;
+
+const MOST_CELLS: u16 = 256;
+
+const MOST_RULES: u8 = 64;
+
+const MOST_MOVES: usize = 4096;
+
+const MOST_PARTS: usize = 16384;
 
 // What a game has too much of (of players and cells also too little), with its number. `Deep` says that an expression is too deep.
 #[derive(Clone, Copy, PartialEq, Eq, Debug)]
@@ -23,70 +31,67 @@ pub enum Excess {
     Deep,
 }
 
-// The first count that is outside its limits.
-fn outside_limits(found: Found) -> Option<Excess>
-    ensures { result ≡ count_excess found.players found.cells found.rules found.moves found.parts }
-{
-    if found.players < 1 || found.players > MOST_PLAYERS {
-        return Some(Excess::Players(found.players as usize));
+impl fmt::Display for Excess {
+    fn fmt<W: fmt::Write>(&self, f: &mut fmt::Formatter<W>) -> fmt::Result {
+        match self {
+            Excess::Players(n) => write!(f, "the game has {n} players, and 1 to 4 are served"),
+            Excess::Cells(n) => write!(f, "the game has {n} cells, and 1 to 256 are served"),
+            Excess::Rules(n) => write!(f, "the game has {n} rules, and at most 64 are served"),
+            Excess::Moves(n) => write!(
+                f,
+                "the game has {n} possible moves, and at most 4096 are served"
+            ),
+            Excess::Parts(n) => write!(f, "the game has {n} parts, and at most 16384 are served"),
+            Excess::FirstBound { rule, bound } => write!(
+                f,
+                "rule {rule}, counted from 0, has the first bound {bound}, and at most 256 is served"
+            ),
+            Excess::SecondBound { rule, bound } => write!(
+                f,
+                "rule {rule}, counted from 0, has the second bound {bound}, and at most 256 is served"
+            ),
+            Excess::Deep => write!(
+                f,
+                "an expression is more than 32 deep, and 32 is the most that is served"
+            ),
+        }
     }
-    if found.cells < 1 || found.cells > MOST_CELLS {
-        return Some(Excess::Cells(found.cells));
-    }
-    if found.rules > MOST_RULES {
-        return Some(Excess::Rules(found.rules as usize));
-    }
-    if found.moves > MOST_MOVES {
-        return Some(Excess::Moves(found.moves));
-    }
-    if found.parts > MOST_PARTS {
-        return Some(Excess::Parts(found.parts));
-    }
-    None
 }
 
-// The first bound that is too large, of the `count` rules from `at` on. The first of these has the number `rule`.
-fn large_bound(bytes: &[u8], at: usize, count: u8, rule: usize) -> Option<Excess>
-    requires { (at ≤ length bytes.now) × (rule + count ≤ 255) }
-    ensures { (us : List Rule) (q : List ℕ) → read_rules count (drop at bytes.now) ≡ got us q → result ≡ bound_excess rule us }
+// The first count that is outside its limits.
+#[tactic(auto, unfolding(crate::specs::Excess::count_excess))]
+fn outside_limits(found: &Found) -> Option<Excess>
+    ensures { result ≡ count_excess found.now.players found.now.cells found.now.rules found.now.totals.moves found.now.totals.parts }
 {
-    if count == 0 {
-        return None;
+    if !(1..=MOST_PLAYERS).contains(&found.players) {
+        Some(Excess::Players(usize::from(found.players)))
+    } else if !(1..=MOST_CELLS).contains(&found.cells) {
+        Some(Excess::Cells(usize::from(found.cells)))
+    } else if found.rules > MOST_RULES {
+        Some(Excess::Rules(usize::from(found.rules)))
+    } else if found.totals.moves > MOST_MOVES {
+        Some(Excess::Moves(found.totals.moves))
+    } else if found.totals.parts > MOST_PARTS {
+        Some(Excess::Parts(found.totals.parts))
+    } else {
+        None
     }
-    let Some(one) = walk_rule(bytes, at) else {
-        return None;
-    };
-    let first = two_bytes(bytes, at);
-    if first > MOST_BOUND {
-        return Some(Excess::FirstBound { rule, bound: first });
-    }
-    let second = two_bytes(bytes, at + 2);
-    if second > MOST_BOUND {
-        return Some(Excess::SecondBound {
-            rule,
-            bound: second,
-        });
-    }
-    large_bound(bytes, one.end, count - 1, rule + 1)
+}
+
+// The first limit that is broken: a count, else a bound of a rule, else the depth of an expression.
+pub(super) fn limit_broken(found: &Found) -> Option<Excess>
+    ensures { result ≡ found_excess found.now }
+{
+    outside_limits(found)
+        .or(found.totals.bound)
+        .or(found.totals.deep.then_some(Excess::Deep))
 }
 
 // The first limit that a game breaks: None if the bytes are a good game, or no game at all.
 pub fn first_excess(game: &[u8]) -> Option<Excess>
     ensures { result ≡ excess_of (parse_game game.now) }
 {
-    let Some(found) = walk_game(game) else {
-        return None;
-    };
-    if keeps_limits(found) {
-        return None;
-    }
-    if let Some(excess) = outside_limits(found) {
-        return Some(excess);
-    }
-    match large_bound(game, 4 + 2 * found.cells, found.rules, 0) {
-        Some(excess) => Some(excess),
-        None => Some(Excess::Deep),
-    }
+    limit_broken(&walk_game(game)?)
 }
 
 // Of a game whose numbers fit it is told that an expression is too deep only if one is.

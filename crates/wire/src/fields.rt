@@ -1,8 +1,7 @@
-// Numbers of four bytes, the lowest byte first.
-ghost use Rattle.std.specs.Prelude.{◌≡◌, ◌+◌, ◌*◌, ◌%◌, slice_index, slice_set};
+// Numbers as bytes, the lowest byte first, at places of bytes.
+ghost use Rattle.std.specs.Prelude.{◌≡◌, ℕ, ◌+◌, ◌%◌, ◌<◌, slice_index, slice_set};
 ghost use Rattle.wire.specs.Numbers.{number_bytes};
-ghost use Rattle.wire.specs.Fields.{field_at, fields_bytes, written};
-ghost use Rattle.wire.specs.GamesWalk.{word_at};
+ghost use Rattle.wire.specs.Fields.{field_at, word_at, fields_bytes, written};
 
 // Puts an item at a place, if it is there.
 pub fn put<T: Copy>(items: &mut [T], at: usize, item: T)
@@ -13,28 +12,22 @@ pub fn put<T: Copy>(items: &mut [T], at: usize, item: T)
     }
 }
 
-// The byte at a place, 0 where there is none.
-fn byte_at(bytes: &[u8], at: usize) -> u32
-    ensures { result ≡ slice_index bytes.now at }
+// The N bytes from a place on; those that are not there are 0.
+fn bytes_at<const N: usize>(bytes: &[u8], at: usize) -> [u8; N]
+    ensures { (i : ℕ) → i < N → slice_index result i ≡ slice_index bytes.now (at + i) }
 {
-    if at < bytes.len() {
-        bytes[at] as u32
-    } else {
-        0
-    }
+    let rest = &bytes[at.min(bytes.len())..];
+    let count = rest.len().min(N);
+    let mut found = [0; N];
+    found[..count].copy_from_slice(&rest[..count]);
+    found
 }
 
 // The number in the four bytes from a place on; bytes that are not there count as 0.
 pub fn field_at(bytes: &[u8], at: usize) -> u32
     ensures { result ≡ field_at bytes.now at }
 {
-    if at >= bytes.len() {
-        return 0;
-    }
-    byte_at(bytes, at)
-        + 256
-            * (byte_at(bytes, at + 1)
-                + 256 * (byte_at(bytes, at + 2) + 256 * byte_at(bytes, at + 3)))
+    u32::from_le_bytes(bytes_at(bytes, at))
 }
 
 // The number in the two bytes from a place on; bytes that are not there count as 0.
@@ -42,20 +35,23 @@ pub fn two_bytes(bytes: &[u8], at: usize) -> u16
     ensures value { result ≡ word_at bytes.now at }
     ensures lowest { result ≡ field_at bytes.now at % 65536 }
 {
-    (field_at(bytes, at) % 65536) as u16
+    u16::from_le_bytes(bytes_at(bytes, at))
+}
+
+// Writes bytes over those from a place on, if there is room for them; else nothing changes.
+pub fn put_bytes(bytes: &mut [u8], at: usize, new: &[u8])
+    ensures { bytes.new ≡ written at new.now bytes.old }
+{
+    if at <= bytes.len() && new.len() <= bytes.len() - at {
+        bytes[at..at + new.len()].copy_from_slice(new);
+    }
 }
 
 // Writes the four lowest bytes of n from a place on, if there is room for them; else nothing changes.
 pub fn put_field(bytes: &mut [u8], at: usize, n: usize)
     ensures { bytes.new ≡ written at (number_bytes 4 n) bytes.old }
 {
-    if bytes.len().saturating_sub(at) < 4 {
-        return;
-    }
-    bytes[at] = (n % 256) as u8;
-    bytes[at + 1] = (n / 256 % 256) as u8;
-    bytes[at + 2] = (n / 256 / 256 % 256) as u8;
-    bytes[at + 3] = (n / 256 / 256 / 256 % 256) as u8;
+    put_bytes(bytes, at, &n.to_le_bytes()[..4]);
 }
 
 // Writes numbers one after the other, four bytes each, from a place on, if there is room for all of them; else nothing changes.
@@ -65,9 +61,7 @@ pub fn put_fields(bytes: &mut [u8], at: usize, numbers: &[u32])
     if bytes.len().saturating_sub(at) / 4 < numbers.len() {
         return;
     }
-    let mut next = at;
-    for n in numbers {
-        put_field(bytes, next, *n as usize);
-        next += 4;
+    for (i, n) in numbers.iter().enumerate() {
+        put_bytes(bytes, at + 4 * i, &n.to_le_bytes());
     }
 }

@@ -21,7 +21,7 @@ pub enum ExprKind {
     If,
 }
 
-// A byte that is no kind of expression.
+// A byte that is no kind, of an expression or of a call.
 #[derive(Clone, Copy, PartialEq, Eq, Debug)]
 pub struct UnknownKind;
 
@@ -60,6 +60,7 @@ impl From<ExprKind> for u8 {
 
 impl ExprKind {
     // How many parts an expression of this kind has.
+    #[tactic(auto, unfolding(crate::specs::Exprs::kind_after))]
     pub fn arity(self) -> usize
         ensures known { 1 ≤ kind_number self → result ≡ (kind_after (kind_number self - 1)).arity }
         ensures few { result ≤ 3 }

@@ -1,16 +1,27 @@
-use Rattle.std.proofs.Common.{sym}
-use Rattle.wire.proofs.CallBytes.{read_part, read_whole}
+use Rattle.std.proofs.Common.{◌≡◌, ◌<◌, length, get_or, arith}
+use Rattle.std.proofs.lemmas.Grind.{common_steps}
+use Rattle.wire.specs.CallKinds.{byte_of}
+use Rattle.wire.proofs.CallBytes.{read_none, read_unknown, read_part, read_whole, kind_known}
 use Rattle.wire.proofs.calls.read_call.Goals as goal
 
-pub returns-in_default : goal.returns-in_default
-returns-in_default c = sym c.in_default.ensures
+pub returns-in_err-byte : goal.returns-in_err-byte
+returns-in_err-byte c = grind (arith, common_steps, read_none c.args.bytes.now)
 
-pub returns-in_default-exactly : goal.returns-in_default-exactly
-returns-in_default-exactly c =
-    read_part c.args.bytes.now c.in-Some.kind c.count_fields.result c.min.result c.in-Some.ensures c.count_fields.ensures
-    c.in_default-exactly.ensures c.min.ensures
+pub returns-in_err-kind : goal.returns-in_err-kind
+returns-in_err-kind c = grind (arith, common_steps, read_unknown c.args.bytes.now)
+
+pub returns-then-bytes-wanted : goal.returns-then-bytes-wanted
+returns-then-bytes-wanted c =
+    let bs = c.args.bytes.now in
+    let kind = c.in_ok-kind.kind in
+    let some : 0 < length bs = grind (arith, common_steps) in
+    let is : byte_of kind ≡ get_or bs 0 0 = grind (arith, common_steps) in
+    read_part bs (byte_of kind) c.fields.result c.min.result (kind_known bs kind some is) c.fields.ensures c.if-bytes-wanted.true c.min.ensures
 
 pub returns : goal.returns
 returns c =
-    read_whole c.args.bytes.now c.in-Some.kind c.count_fields.result c.call_at.result c.in-Some.ensures c.count_fields.ensures
-    c.in-Some-exactly.ensures.1 (c.call_at.ensures c.in-Some.ensures.2)
+    let bs = c.args.bytes.now in
+    let kind = c.in_ok-kind.kind in
+    let some : 0 < length bs = grind (arith, common_steps) in
+    let is : byte_of kind ≡ get_or bs 0 0 = grind (arith, common_steps) in
+    read_whole bs (byte_of kind) c.fields.result c.call_at.result (kind_known bs kind some is) c.fields.ensures c.if-bytes-wanted.false c.call_at.ensures

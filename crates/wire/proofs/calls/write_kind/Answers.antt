@@ -1,20 +1,13 @@
-use Rattle.std.proofs.Common.{ℕ, ◌+◌, ◌*◌, List, ◌∷◌, length, sym, arith}
-use Rattle.wire.specs.Fields.{fields_bytes}
+use Rattle.std.proofs.Common.{ℕ, ◌+◌, ◌*◌, List, ◌∷◌, length, set, sym, ap, ◌∙◌, arith}
+use Rattle.wire.specs.Fields.{fields_bytes, written}
+use Rattle.wire.specs.CallKinds.{byte_of}
 use Rattle.wire.proofs.FieldLists.{length_fields_bytes}
 use Rattle.wire.proofs.Writing.{written_none, no_room, room_for, after_kind}
 use Rattle.wire.proofs.calls.write_kind.Goals as goal
 
-pub returns-then-out-eq0 : goal.returns-then-out-eq0
-returns-then-out-eq0 c =
-    let bs : List ℕ = c.args.kind ∷ fields_bytes c.args.fields.now in
-    record {
-      size = no_room 0 bs c.args.out.now (omega arith);
-      bytes = sym (written_none 0 bs c.args.out.now (omega arith));
-    }
-
-pub returns-then-out-fields : goal.returns-then-out-fields
-returns-then-out-fields c =
-    let bs : List ℕ = c.args.kind ∷ fields_bytes c.args.fields.now in
+pub returns-then-out-size : goal.returns-then-out-size
+returns-then-out-size c =
+    let bs : List ℕ = byte_of c.args.kind ∷ fields_bytes c.args.fields.now in
     let long = length_fields_bytes c.args.fields.now in
     record {
       size = no_room 0 bs c.args.out.now (omega arith);
@@ -23,9 +16,9 @@ returns-then-out-fields c =
 
 pub returns : goal.returns
 returns c =
-    let bs : List ℕ = c.args.kind ∷ fields_bytes c.args.fields.now in
+    let bs : List ℕ = byte_of c.args.kind ∷ fields_bytes c.args.fields.now in
     let long = length_fields_bytes c.args.fields.now in
     record {
       size = room_for 0 (1 + 4 * length c.args.fields.now) bs c.args.out.now (omega arith) (omega arith);
-      bytes = after_kind c.args.out.now c.args.kind c.args.fields.now c.put_fields.ensures (omega arith);
+      bytes = after_kind c.args.out.now (byte_of c.args.kind) c.args.fields.now (c.put_fields.ensures ∙ ap (λ x. written 1 (fields_bytes c.args.fields.now) (set c.args.out.now 0 x)) c.into.ensures) (omega arith);
     }

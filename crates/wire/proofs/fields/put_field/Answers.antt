@@ -1,12 +1,7 @@
-use Rattle.std.proofs.Common.{sym, arith}
-use Rattle.wire.specs.Numbers.{number_bytes}
-use Rattle.wire.proofs.Writing.{written_none, written_four}
+use Rattle.std.proofs.Common.{take, ap, ◌∙◌}
+use Rattle.wire.specs.Fields.{written}
+use Rattle.wire.proofs.Numbers.{le_four}
 use Rattle.wire.proofs.fields.put_field.Goals as goal
 
 pub returns : goal.returns
-unfolding number_bytes
-returns c = written_four c.args.bytes.now c.args.at _ _ _ _ (omega arith)
-
-pub returns-then-saturating_sub-lt4 : goal.returns-then-saturating_sub-lt4
-unfolding number_bytes
-returns-then-saturating_sub-lt4 c = sym (written_none c.args.at (number_bytes 4 c.args.n) c.args.bytes.now (omega arith))
+returns c = c.put_bytes.ensures ∙ ap (λ l. written c.args.at l c.args.bytes.now) (ap (take 4) c.to_le_bytes.ensures ∙ le_four c.args.n)
