@@ -61,17 +61,14 @@ module _ (s : Evaluator) where
 pub min_capped : (n : ℕ) → min n 65535 ≡ capped n
 min_capped n = grind (arith, nat_tests)
 
--- r is g of two values
-pub of_two : (g : ℕ → ℕ → ℕ) {r u v a b w : ℕ} → r ≡ g u v → u ≡ a → v ≡ b → w ≡ g a b → r ≡ w
-of_two g e ea eb ew = cc
-
 pub no_factor : {u a w : ℕ} (b : ℕ) → u ≡ a → u ≡ 0 → w ≡ capped (a * b) → 0 ≡ w
 no_factor {u} {a} b ea z ew =
     let none : a * b ≡ 0 = omega (arith, ap (λ n. n * b) (sym ea ∙ z)) in
     sym (ew ∙ ap capped none)
 
-pub if_zero : {r u a w : ℕ} (b c : ℕ) → r ≡ c → u ≡ a → u ≡ 0 → w ≡ cond (eqb a 0) c b → r ≡ w
-if_zero b c e ea z ew = grind (arith, nat_tests)
+-- the part that is chosen by whether u is 0
+pub if_zero : (g : ℕ → ℕ) {r u n w : ℕ} (a b c : ℕ) → r ≡ g n → n ≡ c → u ≡ g a → u ≡ 0 → w ≡ cond (eqb (g a) 0) (g c) (g b) → r ≡ w
+if_zero g a b c e is ea z ew = grind (arith, nat_tests, ap g is)
 
-pub if_other : {r u a w : ℕ} (b c : ℕ) → r ≡ b → u ≡ a → (u ≡ 0 → ⊥) → w ≡ cond (eqb a 0) c b → r ≡ w
-if_other b c e ea z ew = grind (arith, nat_tests)
+pub if_other : (g : ℕ → ℕ) {r u n w : ℕ} (a b c : ℕ) → r ≡ g n → n ≡ b → u ≡ g a → (u ≡ 0 → ⊥) → w ≡ cond (eqb (g a) 0) (g c) (g b) → r ≡ w
+if_other g a b c e is ea z ew = grind (arith, nat_tests, ap g is)

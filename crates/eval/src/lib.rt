@@ -130,10 +130,10 @@ impl Evaluator<'_> {
         let Row { kind, a, b, c } = row_at(self.rules, at);
         match kind {
             ExprKind::Num => a.min(MOST),
-            ExprKind::Cell => word_at(self.cells, self.value(a, below) as usize),
             ExprKind::First => self.first,
             ExprKind::Second => self.second,
             ExprKind::Me => self.me,
+            ExprKind::Cell => word_at(self.cells, self.value(a, below) as usize),
             ExprKind::Add => sum(self.value(a, below), self.value(b, below)),
             ExprKind::Sub => self.value(a, below).saturating_sub(self.value(b, below)),
             ExprKind::Mul => {
@@ -148,12 +148,8 @@ impl Evaluator<'_> {
             ExprKind::Lt => is_below(self.value(a, below), self.value(b, below)),
             ExprKind::Eq => is_equal(self.value(a, below), self.value(b, below)),
             ExprKind::If => {
-                let x = self.value(a, below);
-                if x == 0 {
-                    self.value(c, below)
-                } else {
-                    self.value(b, below)
-                }
+                let chosen = if self.value(a, below) == 0 { c } else { b };
+                self.value(chosen, below)
             }
         }
     }

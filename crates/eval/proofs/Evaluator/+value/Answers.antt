@@ -1,7 +1,8 @@
-use Rattle.std.proofs.Common.{arith}
-use Rattle.std.proofs.lemmas.Bool.Decides.{nat_tests}
-use Rattle.eval.proofs.Values.{no_level, by_row, min_capped, no_factor}
+use Rattle.std.proofs.Common.{ℕ, ◌-◌}
+use Rattle.eval.proofs.Values.{meant, no_level, by_row, min_capped, no_factor, if_zero, if_other}
+use Rattle.eval.specs.Memory.{expr_within}
 use Rattle.eval.proofs.Evaluator.+value.Goals as goal
+use Rattle.eval.proofs.Evaluator.+value.Goals.{then-value-eq0, else-value-eq0}
 
 pub returns-then-levels-eq0 : goal.returns-then-levels-eq0
 returns-then-levels-eq0 t c = no_level c.args.self.now _ _ c.if-levels-eq0.true
@@ -45,8 +46,13 @@ returns-then-x-eq0 t c = no_factor _ c.value-x.ensures c.if-x-eq0.true (by_row c
 pub returns-else-x-eq0 : goal.returns-else-x-eq0
 returns-else-x-eq0 t c = cc (by_row c.args.self.now _ _ _ c.row_at-kind.ensures c.if-levels-eq0.false c.in-Mul.is)
 
-pub returns-then-x-eq0-2 : goal.returns-then-x-eq0-2
-returns-then-x-eq0-2 t c = grind (arith, nat_tests, by_row c.args.self.now _ _ _ c.row_at-kind.ensures c.if-levels-eq0.false c.in-If.is)
-
-pub returns-else-x-eq0-2 : goal.returns-else-x-eq0-2
-returns-else-x-eq0-2 t c = grind (arith, nat_tests, by_row c.args.self.now _ _ _ c.row_at-kind.ensures c.if-levels-eq0.false c.in-If.is)
+pub returns-after-value-eq0 : goal.returns-after-value-eq0
+returns-after-value-eq0 t c =
+    let s = c.args.self.now in
+    let row = c.row_at-kind.result in
+    let part : ℕ → ℕ = λ i. meant s (expr_within (c.args.levels - 1) s.rules.now i) in
+    let whole = by_row s _ _ _ c.row_at-kind.ensures c.if-levels-eq0.false c.in-If.is in
+    elim c.if-value-eq0.branch [
+      | then-value-eq0 w ↦ if_zero part row.a row.b row.c c.value-in-If-2.ensures w.chosen-is c.value-in-If.ensures w.if-value-eq0.true whole
+      | else-value-eq0 w ↦ if_other part row.a row.b row.c c.value-in-If-2.ensures w.chosen-is c.value-in-If.ensures w.if-value-eq0.false whole
+    ]
