@@ -1,18 +1,22 @@
 -- Loading an expression: its parts one after the other, and then its row.
-use Rattle.std.proofs.Common.{◌≡◌, ℕ, zero, suc, ◌+◌, ◌-◌, ◌*◌, ◌<◌, ◌≤◌, Bool, true, List, [], ◌∷◌, ◌++◌, length, get_or, drop, set, sym, refl, ap, ◌∙◌, subst, ⊎_elim, arith}
+use Rattle.std.proofs.Common.{◌≡◌, ℕ, zero, suc, ◌+◌, ◌-◌, ◌*◌, ◌<◌, ◌≤◌, Bool, true, List, [], ◌∷◌, ◌++◌, length, get_or, drop, set, Ok, Err, Result, sym, refl, ap, ◌∙◌, subst, ⊎_elim, arith}
 use Rattle.std.proofs.lemmas.Bool.{cases_eq, cond-true, cond-false, lt-ltb, le-ltb}
 use Rattle.std.proofs.lemmas.List.{take_all, drop_all, drop_more, drop-drop, length-drop, length-set, get_or_push, get_or_append_left, get_or-set_same, get_or-set_other}
 use Rattle.rules.specs.Rules.{Expr, Num}
 use Rattle.rules.specs.Bounds.{fits_depth, expr_parts}
 use Rattle.wire.specs.Numbers.{bytes_value}
+use Rattle.wire.specs.Kinds.{kind_number}
+use Rattle.wire.specs.declared.kinds.ExprKind.{ExprKind}
+use Rattle.wire.specs.declared.kinds.ExprKind.TheVariants as kind
 use Rattle.wire.specs.Exprs.{Parsed, got, unreadable, and_then, kind_after, join, read_exprs}
-use Rattle.wire.specs.GamesWalk.{exprs_parts, within_levels}
+use Rattle.wire.specs.GamesWalk.{exprs_parts, within_levels, word_at}
 use Rattle.wire.proofs.Exprs.{joined}
 use Rattle.wire.proofs.ExprsKinds.{lawful}
 use Rattle.wire.proofs.ExprsBack.{then_got, not_got, same_got, sized, glue, reads_in_turns}
-use Rattle.eval.specs.Memory.{node_of, node_at, expr_of, expr_within}
+use Rattle.eval.specs.Memory.{row_of, row_at, expr_of, expr_within}
 use Rattle.eval.specs.declared.Loaded.{Loaded}
-use Rattle.eval.specs.declared.Loaded.TheVariants.{Read, Unreadable, TooDeep, Full}
+use Rattle.eval.specs.declared.LoadError.{LoadError}
+use Rattle.eval.specs.declared.LoadError.TheVariants.{Unreadable, TooDeep, Full}
 use Rattle.eval.specs.Load.{SameBetween, Stands, Loads, fits_levels, LoadsWithin, Written, Ended}
 use Rattle.eval.proofs.Rows.{row_means, row_stays, parts_append, parts_one, parts_none, levels_push, levels_passed}
 
@@ -21,12 +25,14 @@ same_one e f q r h = cc
 
 -- the last row of an expression was written, or there was no room for it
 pub finish :
-    (fits : Expr → Bool) (means : List ℕ → ℕ → Expr) (bs : List ℕ) (at : ℕ) (xs ys zs : List ℕ) (i k a b c used : ℕ) (e : Expr) (r : Loaded)
+    (fits : Expr → Bool) (means : List ℕ → ℕ → Expr) (bs : List ℕ) (at : ℕ) (xs ys zs : List ℕ) (i k : ℕ) (os : List ℕ) (used : ℕ) (e : Expr)
+    (r : Result Loaded LoadError)
     → read_exprs 1 bs ≡ got (e ∷ []) (drop used bs) → used ≤ length bs → fits e ≡ true → i + 4 ≡ at + 4 * expr_parts e → at ≤ i
     → ((j : ℕ) → j < at → get_or ys j 0 ≡ get_or xs j 0) → ((j : ℕ) → i ≤ j → get_or ys j 0 ≡ get_or xs j 0)
-    → (Written i k a b c ys zs → (ws : List ℕ) → SameBetween at (i + 4) ws zs → node_at ws i ≡ node_of k a b c → means ws i ≡ e)
-    → Ended i k a b c used ys zs r → Loads fits means bs at xs zs r
-finish fits means bs at xs ys zs i k a b c used e (Read u root) rd w ft en le lo hi is m =
+    → (Written i k os ys zs → (ws : List ℕ) → SameBetween at (i + 4) ws zs → row_at ws i ≡ row_of k (get_or os 0 0) (get_or os 1 0) (get_or os 2 0)
+    → means ws i ≡ e)
+    → Ended i k os used ys zs r → Loads fits means bs at xs zs r
+finish fits means bs at xs ys zs i k os used e (Ok l) rd w ft en le lo hi is m =
     let row = m.2 in
     record {
       outcome = (
@@ -40,17 +46,17 @@ finish fits means bs at xs ys zs i k a b c used e (Read u root) rd w ft en le lo
           small = omega (arith, m.1, row.number);
           after = λ j h. row.above j (omega (arith, m.1)) ∙ hi j (omega (arith, m.1));
           stays = λ ws same. let there : SameBetween at (i + 4) ws zs = λ j p q. same j p (omega (arith, m.1)) in
-              ap (means ws) m.1 ∙ is row ws there (row_stays at i k a b c zs ws row.row le there);
+              ap (means ws) m.1 ∙ is row ws there (row_stays at i k os zs ws row.row le there);
         },
       );
       before = λ j h. row.below j (omega arith) ∙ lo j h;
     }
-finish fits means bs at xs ys zs i k a b c used e Unreadable rd w ft en le lo hi is m = absurd m
-finish fits means bs at xs ys zs i k a b c used e TooDeep rd w ft en le lo hi is m = absurd m
-finish fits means bs at xs ys zs i k a b c used e Full rd w ft en le lo hi is m = record {
-  outcome = λ f q g. let size : expr_parts e ≡ expr_parts f = ap expr_parts (same_one e f (drop used bs) q (sym rd ∙ g)) in omega (arith, m.0);
-  before = λ j h. ap (λ l. get_or l j 0) m.1 ∙ lo j h;
-}
+finish fits means bs at xs ys zs i k os used e (Err x) rd w ft en le lo hi is m =
+    let refused : Loads fits means bs at xs zs (Err Full) = record {
+      outcome = λ f q g. let size : expr_parts e ≡ expr_parts f = ap expr_parts (same_one e f (drop used bs) q (sym rd ∙ g)) in omega (arith, m.1);
+      before = λ j h. ap (λ l. get_or l j 0) m.2 ∙ lo j h;
+    } in
+    subst (λ y. Loads fits means bs at xs zs (Err y)) (sym m.0) refused
 
 -- n parts have been read, which take the bytes from 1 up to `used` and the words from `at` up to `next`
 pub record Parts (bs xs : List ℕ) (l at n used next : ℕ) (places ys : List ℕ) (es : List Expr) : Type 0 where
@@ -133,19 +139,19 @@ module _ (bs : List ℕ) (k : ℕ) (some : 0 < length bs) (is : get_or bs 0 0 �
 
   module _ (xs : List ℕ) (l at n used next : ℕ) (places ys : List ℕ) (es : List Expr) (ps : Parts bs xs l at n used next places ys es) where
     -- all parts were read, and the row is written
-    pub all_parts : (zs : List ℕ) (r : Loaded) → n ≡ (kind_after k).arity
-        → Ended next (get_or bs 0 0) (get_or places 0 0) (get_or places 1 0) (get_or places 2 0) used ys zs r → LoadsWithin (suc l) bs at xs zs r
+    pub all_parts : (zs : List ℕ) (r : Result Loaded LoadError) → n ≡ (kind_after k).arity
+        → Ended next (get_or bs 0 0) places used ys zs r → LoadsWithin (suc l) bs at xs zs r
     unfolding expr_within
     all_parts zs r all m =
         let rd : read_exprs (kind_after k).arity (drop 1 bs) ≡ got es (drop used bs) = ap (λ i. read_exprs i (drop 1 bs)) (sym all) ∙ ps.read in
         let many = (sized (kind_after k).arity (drop 1 bs) es (drop used bs) rd).0 in
         let law = lawful k known es many in
-        finish (fits_levels (suc l)) (expr_within (suc l)) bs at xs ys zs next (suc k) _ _ _ used ((kind_after k).make es) r
+        finish (fits_levels (suc l)) (expr_within (suc l)) bs at xs ys zs next (suc k) places used ((kind_after k).make es) r
         (whole ∙ ap (joined (kind_after k)) rd ∙ ap (λ fs. got fs (drop used bs)) (join_all es many))
         ps.within (law.levels l ∙ ps.fit) (omega (arith, ps.ends, law.parts)) (omega (arith, ps.ends)) ps.before ps.after
         (λ w ws same row. ap (λ o. expr_of o (expr_within l ws)) row
         ∙ row_means k known places (expr_within l ws) es (λ j h. ps.stays ws (λ i p q. same i p (omega arith) ∙ w.below i q) j (omega arith)))
-        (subst (λ b. Ended next b (get_or places 0 0) (get_or places 1 0) (get_or places 2 0) used ys zs r) is m)
+        (subst (λ b. Ended next b places used ys zs r) is m)
 
     module _ (more : n < (kind_after k).arity) where
       -- the next part, and those after it
@@ -184,21 +190,19 @@ module _ (bs : List ℕ) (k : ℕ) (some : 0 < length bs) (is : get_or bs 0 0 �
               (a, fs, q, u, m.2 ∙ ap (kind_after k).make all, sym (ap length all) ∙ m.3)
 
       -- a part that is not loaded: neither is the whole
-      pub refuse : (qs zs : List ℕ) (r : Loaded) → ((u v : ℕ) → r ≡ Read u v → ⊥) → qs ≡ drop used bs → LoadsWithin l qs next ys zs r
-          → LoadsWithin (suc l) bs at xs zs r
-      refuse qs zs (Read u v) unread left p = absurd (unread u v refl)
-      refuse qs zs Unreadable unread left p = record {
+      pub refuse : (qs zs : List ℕ) (e : LoadError) → qs ≡ drop used bs → LoadsWithin l qs next ys zs (Err e) → LoadsWithin (suc l) bs at xs zs (Err e)
+      refuse qs zs Unreadable left p = record {
         outcome = no_part (ap (read_exprs 1) (sym left) ∙ p.outcome);
         before = λ j h. p.before j (omega (arith, ps.ends)) ∙ ps.before j h;
       }
-      refuse qs zs TooDeep unread left p = record {
+      refuse qs zs TooDeep left p = record {
         outcome = λ e r h.
             let x = next_of e r h in
             ap (λ f. fits_depth f l) x.4 ∙ (lawful k known (es ++ x.0 ∷ x.1) x.5).levels l
             ∙ levels_passed l es x.0 x.1 (p.outcome x.0 x.2 (ap (read_exprs 1) left ∙ x.3));
         before = λ j h. p.before j (omega (arith, ps.ends)) ∙ ps.before j h;
       }
-      refuse qs zs Full unread left p = record {
+      refuse qs zs Full left p = record {
         outcome = λ e r h.
             let x = next_of e r h in
             let full = p.outcome x.0 x.2 (ap (read_exprs 1) left ∙ x.3) in
@@ -206,21 +210,38 @@ module _ (bs : List ℕ) (k : ℕ) (some : 0 < length bs) (is : get_or bs 0 0 �
         before = λ j h. p.before j (omega (arith, ps.ends)) ∙ ps.before j h;
       }
 
+-- a kind that is not a number's has a number from 1 on
+pub other_kind : (k : ExprKind) → (k ≡ kind.Num → ⊥) → (1 ≤ kind_number k) × (kind_number k ≤ 12)
+other_kind kind.Num h = absurd (h refl)
+other_kind kind.Cell h = (omega arith, omega arith)
+other_kind kind.First h = (omega arith, omega arith)
+other_kind kind.Second h = (omega arith, omega arith)
+other_kind kind.Me h = (omega arith, omega arith)
+other_kind kind.Add h = (omega arith, omega arith)
+other_kind kind.Sub h = (omega arith, omega arith)
+other_kind kind.Mul h = (omega arith, omega arith)
+other_kind kind.Div h = (omega arith, omega arith)
+other_kind kind.Rem h = (omega arith, omega arith)
+other_kind kind.Lt h = (omega arith, omega arith)
+other_kind kind.Eq h = (omega arith, omega arith)
+other_kind kind.If h = (omega arith, omega arith)
+
 -- a number is loaded
 pub number :
-    (bs : List ℕ) (l at : ℕ) (xs zs : List ℕ) (r : Loaded) → get_or bs 0 0 ≡ 0 → 3 ≤ length bs → get_or bs 1 0 < 256 → get_or bs 2 0 < 256
-    → Ended at 0 (get_or bs 1 0 + get_or bs 2 0 * 256) 0 0 3 xs zs r → LoadsWithin (suc l) bs at xs zs r
-unfolding read_exprs expr_within expr_parts fits_depth bytes_value
-number bs l at xs zs r z long lx ly m =
+    (bs : List ℕ) (l at : ℕ) (xs zs : List ℕ) (k n : ℕ) (r : Result Loaded LoadError) → k ≡ 0 → n ≡ word_at bs 1 → get_or bs 0 0 ≡ k → 3 ≤ length bs
+    → n < 65536 → Ended at k (n ∷ 0 ∷ 0 ∷ []) 3 xs zs r → LoadsWithin (suc l) bs at xs zs r
+unfolding read_exprs expr_within expr_parts fits_depth
+number bs l at xs zs k n r none num first long small m =
     let x : ℕ = get_or bs 1 0 in
     let y : ℕ = get_or bs 2 0 in
-    let v : ℕ = bytes_value (x ∷ y ∷ []) in
-    let same : x + y * 256 ≡ v = omega arith in
     let is : bs ≡ 0 ∷ x ∷ y ∷ drop 3 bs =
-    drop_more bs 0 0 (omega arith) ∙ (λ j. z j ∷ (drop_more bs 1 0 (omega arith) ∙ ap (λ t. x ∷ t) (drop_more bs 2 0 (omega arith))) j) in
-    finish (fits_levels (suc l)) (expr_within (suc l)) bs at xs xs zs at 0 _ 0 0 3 (Num v) r (ap (read_exprs 1) is) long
-    (lt-ltb v 65536 (omega arith)) (omega arith) (omega arith) (λ j h. refl) (λ j h. refl)
-    (λ w ws there row. ap (λ o. expr_of o (expr_within l ws)) row ∙ ap Num same) m
+    drop_more bs 0 0 (omega arith)
+    ∙ (λ j. (first ∙ none) j ∷ (drop_more bs 1 0 (omega arith) ∙ ap (λ t. x ∷ t) (drop_more bs 2 0 (omega arith))) j) in
+    let same : n ≡ bytes_value (x ∷ y ∷ []) = num ∙ ap (λ b. word_at b 1) is in
+    finish (fits_levels (suc l)) (expr_within (suc l)) bs at xs xs zs at 0 _ 3 (Num (bytes_value (x ∷ y ∷ []))) r (ap (read_exprs 1) is) long
+    (lt-ltb (bytes_value (x ∷ y ∷ [])) 65536 (omega arith)) (omega arith) (omega arith) (λ j h. refl) (λ j h. refl)
+    (λ w ws there row. ap (λ o. expr_of o (expr_within l ws)) row ∙ ap Num same)
+    (subst (λ b. Ended at b (n ∷ 0 ∷ 0 ∷ []) 3 xs zs r) none m)
 
 -- no expression begins here
 pub nothing : (bs : List ℕ) → length bs ≡ 0 → read_exprs 1 bs ≡ unreadable
@@ -228,13 +249,15 @@ unfolding read_exprs
 nothing [] h = refl
 nothing (b ∷ bs) h = absurd (omega arith)
 
-pub short_number : (bs : List ℕ) → get_or bs 0 0 ≡ 0 → length bs < 3 → read_exprs 1 bs ≡ unreadable
+-- nor where the bytes of its kind are not all there
+pub too_short :
+    (bs : List ℕ) (k w : ℕ) → get_or bs 0 0 ≡ k → 0 < length bs → length bs < w → (k ≡ 0 → w ≡ 3) → (1 ≤ k → w ≡ 1) → read_exprs 1 bs ≡ unreadable
 unfolding read_exprs
-short_number [] z h = refl
-short_number (zero ∷ []) z h = refl
-short_number (zero ∷ x ∷ []) z h = refl
-short_number (zero ∷ x ∷ y ∷ bs) z h = absurd (omega arith)
-short_number (suc k ∷ bs) z h = absurd (omega arith)
+too_short [] k w is some lt num other = refl
+too_short (zero ∷ []) k w is some lt num other = refl
+too_short (zero ∷ x ∷ []) k w is some lt num other = refl
+too_short (zero ∷ x ∷ y ∷ bs) k w is some lt num other = absurd (omega (arith, num (sym is)))
+too_short (suc b ∷ bs) k w is some lt num other = absurd (omega (arith, other (omega arith)))
 
 pub unknown_kind : (bs : List ℕ) → 12 < get_or bs 0 0 → read_exprs 1 bs ≡ unreadable
 unfolding read_exprs
@@ -243,6 +266,6 @@ unknown_kind (zero ∷ bs) h = absurd (omega arith)
 unknown_kind (suc k ∷ bs) h = cond-false _ _ _ (le-ltb k 12 (omega arith))
 
 -- levels that are not 0, as code has them
-pub at_levels : (l : ℕ) (bs : List ℕ) (at : ℕ) (xs ys : List ℕ) (r : Loaded) → (l ≡ 0 → ⊥) → LoadsWithin (suc (l - 1)) bs at xs ys r → LoadsWithin l bs at xs ys r
+pub at_levels : (l : ℕ) (bs : List ℕ) (at : ℕ) (xs ys : List ℕ) (r : Result Loaded LoadError) → (l ≡ 0 → ⊥) → LoadsWithin (suc (l - 1)) bs at xs ys r → LoadsWithin l bs at xs ys r
 at_levels zero bs at xs ys r h p = absurd (h refl)
 at_levels (suc l) bs at xs ys r h p = let e : suc (suc l - 1) ≡ suc l = omega arith in subst (λ n. LoadsWithin n bs at xs ys r) e p

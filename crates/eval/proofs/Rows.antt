@@ -5,8 +5,8 @@ use Rattle.rules.specs.Rules.{Expr, Num, Cell, Add, Sub, Mul, Div, Rem, Lt, Eq, 
 use Rattle.rules.specs.Bounds.{expr_parts}
 use Rattle.wire.specs.Exprs.{kind_after}
 use Rattle.wire.specs.GamesWalk.{exprs_parts, within_levels}
-use Rattle.eval.specs.Memory.{node_of, node_at, expr_of}
-use Rattle.eval.specs.Load.{SameBetween, Row, fits_levels}
+use Rattle.eval.specs.Memory.{row_of, row_at, expr_of}
+use Rattle.eval.specs.Load.{SameBetween, RowAt, fits_levels}
 
 both : (f : Expr → Expr → Expr) {a b x y : Expr} → a ≡ x → b ≡ y → f a b ≡ f x y
 both f p q = cc
@@ -17,7 +17,7 @@ all_three p q r = cc
 -- a row of the kind after k is the expression of that kind, if its parts are at the row's places
 pub row_means :
     (k : ℕ) → k < 12 → (ps : List ℕ) (f : ℕ → Expr) (es : List Expr) → ((j : ℕ) → j < (kind_after k).arity → f (get_or ps j 0) ≡ get_or es j (Num 0))
-    → expr_of (node_of (suc k) (get_or ps 0 0) (get_or ps 1 0) (get_or ps 2 0)) f ≡ (kind_after k).make es
+    → expr_of (row_of (suc k) (get_or ps 0 0) (get_or ps 1 0) (get_or ps 2 0)) f ≡ (kind_after k).make es
 unfolding kind_after
 row_means zero lt ps f es h = ap Cell (h 0 (omega arith))
 row_means (suc zero) lt ps f es h = refl
@@ -34,13 +34,15 @@ row_means (suc (suc (suc (suc (suc (suc (suc (suc (suc (suc (suc zero)))))))))))
 row_means (suc (suc (suc (suc (suc (suc (suc (suc (suc (suc (suc (suc k)))))))))))) lt ps f es h = absurd (omega arith)
 
 -- a row stays where memory is the same
-pub row_stays : (at i k a b c : ℕ) (ys zs : List ℕ) → Row ys i k a b c → at ≤ i → SameBetween at (i + 4) zs ys → node_at zs i ≡ node_of k a b c
-row_stays at i k a b c ys zs r le same =
+pub row_stays :
+    (at i k : ℕ) (os ys zs : List ℕ) → RowAt ys i k os → at ≤ i → SameBetween at (i + 4) zs ys
+    → row_at zs i ≡ row_of k (get_or os 0 0) (get_or os 1 0) (get_or os 2 0)
+row_stays at i k os ys zs r le same =
     let p : get_or zs i 0 ≡ k = same i le (omega arith) ∙ r.kind in
-    let q : get_or zs (i + 1) 0 ≡ a = same (i + 1) (omega arith) (omega arith) ∙ r.a_is in
-    let u : get_or zs (i + 2) 0 ≡ b = same (i + 2) (omega arith) (omega arith) ∙ r.b_is in
-    let v : get_or zs (i + 3) 0 ≡ c = same (i + 3) (omega arith) (omega arith) ∙ r.c_is in
-    λ j. node_of (p j) (q j) (u j) (v j)
+    let q : get_or zs (i + 1) 0 ≡ get_or os 0 0 = same (i + 1) (omega arith) (omega arith) ∙ r.a_is in
+    let u : get_or zs (i + 2) 0 ≡ get_or os 1 0 = same (i + 2) (omega arith) (omega arith) ∙ r.b_is in
+    let v : get_or zs (i + 3) 0 ≡ get_or os 2 0 = same (i + 3) (omega arith) (omega arith) ∙ r.c_is in
+    λ j. row_of (p j) (q j) (u j) (v j)
 
 pub parts_append : (es fs : List Expr) → exprs_parts (es ++ fs) ≡ exprs_parts es + exprs_parts fs
 unfolding exprs_parts

@@ -3,34 +3,34 @@
 
 ghost use Rattle.std.specs.Prelude.{◌≡◌, ℕ, ◌+◌, ◌-◌, ◌*◌, ◌≤◌, if◌then◌else◌, nat_eq, nat_lt, slice_index};
 ghost use Rattle.rules.specs.Rules.{capped, quotient, remainder, eval as value_of_lem};
-ghost use Rattle.eval.specs.Memory.{node_of, node_at, expr_within, expr_at};
-ghost use Rattle.eval.specs.Load.{LoadsExpr, LoadsWithin, Ended};
+ghost use Rattle.wire.specs.Kinds.{kind_number};
+ghost use Rattle.eval.specs.Memory.{kind_of, row_of, row_at, expr_within, expr_at};
+ghost use Rattle.eval.specs.Load.{LoadsExpr, LoadsWithin, BeginsAs, Ended};
+ghost use Rattle.eval.specs.declared.LoadError.TheVariants.{Unreadable};
 
-use wire::arity_of;
+use wire::{ExprKind, UnknownKind, two_bytes};
 
-// A row of an expression: its operands are a number, or the places of its parts.
+// A row of an expression: its kind, and its operands, which are a number or the places of its parts.
 #[derive(Clone, Copy)]
-enum Node {
-    Num(u32),
-    Cell(u32),
-    First,
-    Second,
-    Me,
-    Add(u32, u32),
-    Sub(u32, u32),
-    Mul(u32, u32),
-    Div(u32, u32),
-    Rem(u32, u32),
-    Lt(u32, u32),
-    Eq(u32, u32),
-    If(u32, u32, u32),
+struct Row {
+    kind: ExprKind,
+    a: u32,
+    b: u32,
+    c: u32,
+}
+
+// What the value of an expression depends on: memory with its rows, the position, a move's two numbers, and the player.
+#[derive(Clone, Copy)]
+struct Evaluator<'a> {
+    rules: &'a [u32],
+    cells: &'a [u32],
+    first: u32,
+    second: u32,
+    me: u32,
 }
 
 // The largest number in a game.
 const MOST: u32 = 65535;
-
-// The highest kind of an expression.
-const LAST_KIND: u8 = 12;
 
 // An expression is at most 32 deep: it has a level more than that.
 const LEVELS: u32 = 33;
@@ -39,39 +39,41 @@ const LEVELS: u32 = 33;
 pub fn word_at(words: &[u32], i: usize) -> u32
     ensures { result ≡ slice_index words.now i }
 {
-    if i < words.len() { words[i] } else { 0 }
+    words.get(i).copied().unwrap_or(0)
 }
 
-fn node_of(kind: u32, a: u32, b: u32, c: u32) -> Node
-    ensures { result ≡ node_of kind a b c }
+// The kind of an expression that a word tells, if it tells one.
+fn kind_of(word: u32) -> Option<ExprKind>
+    ensures { result ≡ kind_of word }
 {
-    match kind {
-        0 => Node::Num(a),
-        1 => Node::Cell(a),
-        2 => Node::First,
-        3 => Node::Second,
-        4 => Node::Me,
-        5 => Node::Add(a, b),
-        6 => Node::Sub(a, b),
-        7 => Node::Mul(a, b),
-        8 => Node::Div(a, b),
-        9 => Node::Rem(a, b),
-        10 => Node::Lt(a, b),
-        11 => Node::Eq(a, b),
-        12 => Node::If(a, b, c),
-        _ => Node::Num(0),
+    let byte = u8::try_from(word).ok()?;
+    ExprKind::try_from(byte).ok()
+}
+
+// The row of four words: where the first tells no kind, it is that of the number 0.
+fn row_of(kind: u32, a: u32, b: u32, c: u32) -> Row
+    ensures { result ≡ row_of kind a b c }
+{
+    match kind_of(kind) {
+        Some(kind) => Row { kind, a, b, c },
+        None => Row {
+            kind: ExprKind::Num,
+            a: 0,
+            b: 0,
+            c: 0,
+        },
     }
 }
 
 // The row at `at`: one test serves its four words.
-fn node_at(rules: &[u32], at: u32) -> Node
-    ensures { result ≡ node_at rules.now at }
+fn row_at(rules: &[u32], at: u32) -> Row
+    ensures { result ≡ row_at rules.now at }
 {
     let i = at as usize;
     if i + 4 <= rules.len() {
-        node_of(rules[i], rules[i + 1], rules[i + 2], rules[i + 3])
+        row_of(rules[i], rules[i + 1], rules[i + 2], rules[i + 3])
     } else {
-        node_of(
+        row_of(
             word_at(rules, i),
             word_at(rules, i + 1),
             word_at(rules, i + 2),
@@ -95,96 +97,59 @@ fn product(a: u32, b: u32) -> u32
 fn divided(a: u32, b: u32) -> u32
     ensures { result ≡ quotient a b }
 {
-    if b == 0 { 0 } else { a / b }
+    a.checked_div(b).unwrap_or(0)
 }
 
 fn left_over(a: u32, b: u32) -> u32
     ensures { result ≡ remainder a b }
 {
-    if b == 0 { 0 } else { a % b }
+    a.checked_rem(b).unwrap_or(0)
 }
 
 fn is_below(a: u32, b: u32) -> u32
     ensures { result ≡ (if nat_lt a b then 1 else 0) }
 {
-    if a < b { 1 } else { 0 }
+    u32::from(a < b)
 }
 
 fn is_equal(a: u32, b: u32) -> u32
     ensures { result ≡ (if nat_eq a b then 1 else 0) }
 {
-    if a == b { 1 } else { 0 }
+    u32::from(a == b)
 }
 
-// The value of the expression at `at`, of at most `levels` levels.
-fn eval_within(
-    rules: &[u32],
-    at: u32,
-    levels: u32,
-    cells: &[u32],
-    first: u32,
-    second: u32,
-    me: u32,
-) -> u32
-    ensures { result ≡ value_of_lem (expr_within levels rules.now at) cells.now first second me }
-{
-    if levels == 0 {
-        return 0;
-    }
-    let below = levels - 1;
-    match node_at(rules, at) {
-        Node::Num(n) => n.min(MOST),
-        Node::First => first,
-        Node::Second => second,
-        Node::Me => me,
-        Node::Cell(a) => {
-            let x = eval_within(rules, a, below, cells, first, second, me);
-            word_at(cells, x as usize)
+impl Evaluator<'_> {
+    // The value of the expression at `at`, of at most `levels` levels.
+    fn value(&self, at: u32, levels: u32) -> u32
+        ensures { result ≡ value_of_lem (expr_within levels self.now.rules.now at) self.now.cells.now self.now.first self.now.second self.now.me }
+    {
+        if levels == 0 {
+            return 0;
         }
-        Node::Add(a, b) => {
-            let x = eval_within(rules, a, below, cells, first, second, me);
-            let y = eval_within(rules, b, below, cells, first, second, me);
-            sum(x, y)
-        }
-        Node::Sub(a, b) => {
-            let x = eval_within(rules, a, below, cells, first, second, me);
-            let y = eval_within(rules, b, below, cells, first, second, me);
-            x.saturating_sub(y)
-        }
-        Node::Mul(a, b) => {
-            let x = eval_within(rules, a, below, cells, first, second, me);
-            if x == 0 {
-                return 0;
+        let below = levels - 1;
+        let Row { kind, a, b, c } = row_at(self.rules, at);
+        match kind {
+            ExprKind::Num => a.min(MOST),
+            ExprKind::First => self.first,
+            ExprKind::Second => self.second,
+            ExprKind::Me => self.me,
+            ExprKind::Cell => word_at(self.cells, self.value(a, below) as usize),
+            ExprKind::Add => sum(self.value(a, below), self.value(b, below)),
+            ExprKind::Sub => self.value(a, below).saturating_sub(self.value(b, below)),
+            ExprKind::Mul => {
+                let x = self.value(a, below);
+                if x == 0 {
+                    return 0;
+                }
+                product(x, self.value(b, below))
             }
-            let y = eval_within(rules, b, below, cells, first, second, me);
-            product(x, y)
-        }
-        Node::Div(a, b) => {
-            let x = eval_within(rules, a, below, cells, first, second, me);
-            let y = eval_within(rules, b, below, cells, first, second, me);
-            divided(x, y)
-        }
-        Node::Rem(a, b) => {
-            let x = eval_within(rules, a, below, cells, first, second, me);
-            let y = eval_within(rules, b, below, cells, first, second, me);
-            left_over(x, y)
-        }
-        Node::Lt(a, b) => {
-            let x = eval_within(rules, a, below, cells, first, second, me);
-            let y = eval_within(rules, b, below, cells, first, second, me);
-            is_below(x, y)
-        }
-        Node::Eq(a, b) => {
-            let x = eval_within(rules, a, below, cells, first, second, me);
-            let y = eval_within(rules, b, below, cells, first, second, me);
-            is_equal(x, y)
-        }
-        Node::If(a, b, c) => {
-            let x = eval_within(rules, a, below, cells, first, second, me);
-            if x == 0 {
-                eval_within(rules, c, below, cells, first, second, me)
-            } else {
-                eval_within(rules, b, below, cells, first, second, me)
+            ExprKind::Div => divided(self.value(a, below), self.value(b, below)),
+            ExprKind::Rem => left_over(self.value(a, below), self.value(b, below)),
+            ExprKind::Lt => is_below(self.value(a, below), self.value(b, below)),
+            ExprKind::Eq => is_equal(self.value(a, below), self.value(b, below)),
+            ExprKind::If => {
+                let chosen = if self.value(a, below) == 0 { c } else { b };
+                self.value(chosen, below)
             }
         }
     }
@@ -194,79 +159,96 @@ fn eval_within(
 pub fn eval(rules: &[u32], at: u32, cells: &[u32], first: u32, second: u32, me: u32) -> u32
     ensures { result ≡ value_of_lem (expr_at rules.now at) cells.now first second me }
 {
-    eval_within(rules, at, LEVELS, cells, first, second, me)
+    let evaluator = Evaluator {
+        rules,
+        cells,
+        first,
+        second,
+        me,
+    };
+    evaluator.value(at, LEVELS)
 }
 
-// What loading an expression answers: how many bytes it took and where its row is, the last of its rows, or why it could not be loaded.
-#[derive(Clone, Copy)]
-pub enum Loaded {
-    Read { used: usize, root: u32 },
+// An expression that was loaded: how many bytes it took, and where its row is, the last of its rows.
+#[derive(Clone, Copy, PartialEq, Eq, Debug)]
+pub struct Loaded {
+    pub used: usize,
+    pub root: u32,
+}
+
+// Why an expression is not loaded: its bytes are none, it is more than 32 deep, or there is no room for it.
+#[derive(Clone, Copy, PartialEq, Eq, Debug)]
+pub enum LoadError {
     Unreadable,
     TooDeep,
     Full,
 }
 
+impl From<UnknownKind> for LoadError {
+    ghost from_gives = { λ _ error. error ≡ Unreadable };
+
+    fn from(_kind: UnknownKind) -> LoadError {
+        LoadError::Unreadable
+    }
+}
+
 // Writes the row of an expression that took `used` bytes, after those of its parts.
-fn put_row(rules: &mut [u32], at: u32, kind: u32, a: u32, b: u32, c: u32, used: usize) -> Loaded
-    ensures { Ended at kind a b c used rules.old rules.new result }
+fn put_row(
+    rules: &mut [u32],
+    at: u32,
+    kind: ExprKind,
+    operands: [u32; 3],
+    used: usize,
+) -> Result<Loaded, LoadError>
+    ensures { Ended at (kind_number kind) operands used rules.old rules.new result }
 {
     let i = at as usize;
     if at > u32::MAX - 4 || i + 4 > rules.len() {
-        return Loaded::Full;
+        return Err(LoadError::Full);
     }
-    rules[i] = kind;
-    rules[i + 1] = a;
-    rules[i + 2] = b;
-    rules[i + 3] = c;
-    Loaded::Read { used, root: at }
+    let [a, b, c] = operands;
+    rules[i..i + 4].copy_from_slice(&[u32::from(u8::from(kind)), a, b, c]);
+    Ok(Loaded { used, root: at })
+}
+
+// The kind of the expression at the front of `bytes`, if they hold it and, of a number, its two bytes.
+fn front_kind(bytes: &[u8]) -> Result<ExprKind, LoadError>
+    ensures { BeginsAs bytes.now result }
+{
+    let byte = bytes.first().ok_or(LoadError::Unreadable)?;
+    let kind = ExprKind::try_from(*byte)?;
+    if bytes.len() < kind.width() {
+        return Err(LoadError::Unreadable);
+    }
+    Ok(kind)
 }
 
 // Loads an expression of at most `levels` levels.
-fn load_within(bytes: &[u8], levels: u32, rules: &mut [u32], at: u32) -> Loaded
+fn load_within(bytes: &[u8], levels: u32, rules: &mut [u32], at: u32) -> Result<Loaded, LoadError>
     ensures { LoadsWithin levels bytes.now at rules.old rules.new result }
 {
     if levels == 0 {
-        return Loaded::TooDeep;
+        return Err(LoadError::TooDeep);
     }
-    if bytes.len() == 0 {
-        return Loaded::Unreadable;
+    let kind = front_kind(bytes)?;
+    if kind == ExprKind::Num {
+        let number = u32::from(two_bytes(bytes, 1));
+        return put_row(rules, at, kind, [number, 0, 0], 3);
     }
-    let kind = bytes[0];
-    if kind == 0 {
-        if bytes.len() < 3 {
-            return Loaded::Unreadable;
-        }
-        let n = bytes[1] as u32 + bytes[2] as u32 * 256;
-        return put_row(rules, at, 0, n, 0, 0, 3);
-    }
-    if kind > LAST_KIND {
-        return Loaded::Unreadable;
-    }
-    let mut places = [0u32; 3];
+    let mut places = [0; 3];
     let mut used = 1;
     let mut next = at;
-    for j in 0..arity_of(kind) {
-        let part = load_within(&bytes[used..], levels - 1, rules, next);
-        let Loaded::Read { used: more, root } = part else {
-            return part;
-        };
-        places[j] = root;
-        used += more;
-        next = root + 4;
+    for j in 0..kind.arity() {
+        let part = load_within(&bytes[used..], levels - 1, rules, next)?;
+        places[j] = part.root;
+        used += part.used;
+        next = part.root + 4;
     }
-    put_row(
-        rules,
-        next,
-        kind as u32,
-        places[0],
-        places[1],
-        places[2],
-        used,
-    )
+    put_row(rules, next, kind, places, used)
 }
 
 // Loads the expression at the front of `bytes` into the words of `rules` from `at` on.
-pub fn load_expr(bytes: &[u8], rules: &mut [u32], at: u32) -> Loaded
+pub fn load_expr(bytes: &[u8], rules: &mut [u32], at: u32) -> Result<Loaded, LoadError>
     ensures { LoadsExpr bytes.now at rules.old rules.new result }
 {
     load_within(bytes, LEVELS, rules, at)

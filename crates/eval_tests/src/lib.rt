@@ -3,7 +3,7 @@
 
 #[cfg(test)]
 mod tests {
-    use eval::{Loaded, eval, load_expr};
+    use eval::{LoadError, Loaded, eval, load_expr};
     use std::test::Fail;
 
     const MOST: u32 = 65535;
@@ -104,7 +104,7 @@ mod tests {
     fn loads(rt: HostRuntime) -> Result<(), Fail> {
         let bytes = [12, 10, 2, 1, 0, 1, 0, 5, 0, 2, 0, 0, 44, 1, 4, 99];
         let mut rules = [7u32; 44];
-        let Loaded::Read { used, root } = load_expr(&bytes, &mut rules, 4) else {
+        let Ok(Loaded { used, root }) = load_expr(&bytes, &mut rules, 4) else {
             return Err(Fail::new("not loaded"));
         };
         assert!(rt; used == 15 && root == 36);
@@ -120,33 +120,28 @@ mod tests {
         let mut rules = [0u32; 136];
         let mut bytes = [1u8; 34];
         bytes[32] = 2;
-        let Loaded::Read { used, root } = load_expr(&bytes, &mut rules, 0) else {
+        let Ok(Loaded { used, root }) = load_expr(&bytes, &mut rules, 0) else {
             return Err(Fail::new("32 deep"));
         };
         assert!(rt; used == 33 && root == 128);
         assert!(rt; eval(&rules, root, &[1, 2, 0], 0, 0, 0) == 2);
         bytes[32] = 1;
         bytes[33] = 2;
-        let Loaded::TooDeep = load_expr(&bytes, &mut rules, 0) else {
-            return Err(Fail::new("33 deep"));
-        };
+        assert!(rt;
+            load_expr(&bytes, &mut rules, 0) == Err(LoadError::TooDeep),
+            "33 deep"
+        );
         Ok(())
     }
 
     fn is_unreadable(bytes: &[u8]) -> bool {
         let mut rules = [0u32; 16];
-        match load_expr(bytes, &mut rules, 0) {
-            Loaded::Unreadable => true,
-            _ => false,
-        }
+        load_expr(bytes, &mut rules, 0) == Err(LoadError::Unreadable)
     }
 
     fn is_full(bytes: &[u8], at: u32) -> bool {
         let mut rules = [0u32; 8];
-        match load_expr(bytes, &mut rules, at) {
-            Loaded::Full => true,
-            _ => false,
-        }
+        load_expr(bytes, &mut rules, at) == Err(LoadError::Full)
     }
 
     #[test]

@@ -5,7 +5,7 @@ use Rattle.std.proofs.lemmas.List.{length-append, get_or_append_left, get_or-app
 use Rattle.rules.specs.Rules.{Expr, Num, Cell, First, Second, Me, Add, Sub, Mul, Div, Rem, Lt, Eq, If}
 use Rattle.rules.specs.Bounds.{fits_depth, expr_parts, all_below}
 use Rattle.wire.proofs.FieldLists.{below_append}
-use Rattle.eval.specs.Memory.{node_of, node_at, expr_of, expr_within, expr_at}
+use Rattle.eval.specs.Memory.{row_of, row_at, expr_of, expr_within, expr_at}
 use Rattle.rows.specs.Encoding.{after, root, row, expr_rows}
 
 -- memory has these words from a place on
@@ -20,7 +20,7 @@ has_back m at xs ys n e h k l =
     let sum : at + n + k ≡ at + (length xs + k) = omega arith in
     ap (λ i. get_or m i 0) sum ∙ h (length xs + k) (omega (arith, length-append xs ys)) ∙ get_or-append-add xs ys k 0
 
-has_row : (m : List ℕ) (at i k a b c : ℕ) → i ≡ at → Has m at (row k a b c) → node_at m i ≡ node_of k a b c
+has_row : (m : List ℕ) (at i k a b c : ℕ) → i ≡ at → Has m at (row k a b c) → row_at m i ≡ row_of k a b c
 has_row m at i k a b c e h =
     let p₀ : i ≡ at + 0 = omega arith in
     let p₁ : i + 1 ≡ at + 1 = omega arith in
@@ -30,7 +30,7 @@ has_row m at i k a b c e h =
     let q₁ = ap (λ j. get_or m j 0) p₁ ∙ h 1 (omega arith) in
     let q₂ = ap (λ j. get_or m j 0) p₂ ∙ h 2 (omega arith) in
     let q₃ = ap (λ j. get_or m j 0) p₃ ∙ h 3 (omega arith) in
-    λ j. node_of (q₀ j) (q₁ j) (q₂ j) (q₃ j)
+    λ j. row_of (q₀ j) (q₁ j) (q₂ j) (q₃ j)
 
 -- how many words the rows of two or three parts and a last row are
 two_long : (xs ys zs : List ℕ) (a b : ℕ) → length xs ≡ 4 * a → length ys ≡ 4 * b → length zs ≡ 4 → length (xs ++ (ys ++ zs)) ≡ 4 * suc (a + b)
@@ -67,10 +67,10 @@ rows_long at (If a b c) =
 -- an expression of two parts, whose row is of kind k
 module _ (m : List ℕ) (at : ℕ) (a b : Expr) (k : ℕ) (f : Expr → Expr → Expr) (g : ℕ → Expr) where
   two_there :
-      ((x y z : ℕ) → expr_of (node_of k x y z) g ≡ f (g x) (g y))
+      ((x y z : ℕ) → expr_of (row_of k x y z) g ≡ f (g x) (g y))
       → Has m at (expr_rows at a ++ (expr_rows (after at a) b ++ row k (root at a) (root (after at a) b) 0))
       → (Has m at (expr_rows at a) → g (root at a) ≡ a) → (Has m (after at a) (expr_rows (after at a) b) → g (root (after at a) b) ≡ b)
-      → (i : ℕ) → i ≡ at + 4 * suc (expr_parts a + expr_parts b) - 4 → expr_of (node_at m i) g ≡ f a b
+      → (i : ℕ) → i ≡ at + 4 * suc (expr_parts a + expr_parts b) - 4 → expr_of (row_at m i) g ≡ f a b
   two_there means h one two i is =
       let p : ℕ = after at a in
       let last : List ℕ = row k (root at a) (root p b) 0 in

@@ -1,7 +1,9 @@
 -- Loading a game: its cells, its rules, its last two expressions, and its first words.
-use Rattle.std.proofs.Common.{◌≡◌, ℕ, zero, suc, ◌+◌, ◌-◌, ◌*◌, ◌<◌, ◌≤◌, Bool, true, false, cond, ◌&&◌, leb, List, [], ◌∷◌, ◌++◌, length, get_or, take, drop, Some, None, Ok, Err, Option, Result, sym, refl, ap, ◌∙◌, subst, arith}
-use Rattle.std.proofs.lemmas.Bool.{and_parts, and_from, leb-true, both_ways}
+use Rattle.std.proofs.Common.{◌≡◌, ℕ, zero, suc, ◌+◌, ◌-◌, ◌*◌, ◌<◌, ◌≤◌, Bool, true, false, cond, ◌&&◌, leb, List, [], ◌∷◌, ◌++◌, length, get_or, take, drop, Some, None, Ok, Err, IsSome, Option, Result, sym, refl, ap, ◌∙◌, subst, arith}
+use Rattle.std.proofs.lemmas.Bool.{and_parts, and_from, leb-true, false≢true}
 use Rattle.std.proofs.lemmas.List.{drop-drop, length-drop, get_or-drop, get_or_append_left, get_or-append_right}
+use Rattle.std.specs.Option.{ok_or}
+use Rattle.rules.specs.declared.Reason.{Reason}
 use Rattle.rules.specs.declared.Refusal.{Refusal}
 use Rattle.rules.specs.Rules.{Expr, Rule, Game}
 use Rattle.rules.specs.Bounds.{all_below, fits_depth, expr_parts, game_parts, possible_moves, good_rules, good_game}
@@ -228,11 +230,16 @@ few_words bs z h =
     let x = checked_good bs z h in
     omega (arith, ap words_needed x.3, words_are_enough x.0 x.2, few_game_parts x.0 x.2)
 
+-- what is some is not refused
+not_none : (r : Option Unit) (e f : Reason) → IsSome r → Err e ≡ ok_or r f → ⊥
+not_none None e f some h = absurd (false≢true some)
+not_none (Some u) e f some h = cc
+
 -- from the words that were handed on to the whole memory
-module _ (bs : List ℕ) (z : GameSize) (xs ys : List ℕ) (r : Bool) (ok : checked bs ≡ Ok z) (room : words_needed z ≤ length xs) (size : length ys ≡ words_needed z) (fills : Fills bs z ys r) where
+module _ (bs : List ℕ) (z : GameSize) (xs ys : List ℕ) (r : Option Unit) (ok : checked bs ≡ Ok z) (room : words_needed z ≤ length xs) (size : length ys ≡ words_needed z) (fills : Fills bs z ys r) where
   -- memory was filled
-  pub not_unfilled : r ≡ false → ⊥
-  not_unfilled h = let x = checked_good bs z ok in both_ways r h (fills x.0 x.1 x.2 x.3).0
+  pub not_unfilled : (e f : Reason) → Err e ≡ ok_or r f → ⊥
+  not_unfilled e f h = let x = checked_good bs z ok in not_none r e f (fills x.0 x.1 x.2 x.3).0 h
 
   -- so the game is loaded
   pub is_loaded : (n : ℕ) → words_needed z ≡ n → LoadsGame bs xs (ys ++ drop n xs) (Ok z)

@@ -1,6 +1,7 @@
 -- What is placed in memory, one thing after the other.
-use Rattle.std.proofs.Common.{◌≡◌, ℕ, suc, ◌+◌, ◌-◌, ◌*◌, ◌<◌, ◌≤◌, true, List, [], ◌∷◌, ◌++◌, length, get_or, drop, set, Some, None, Option, sym, refl, ap, ◌∙◌, subst, arith}
+use Rattle.std.proofs.Common.{◌≡◌, ℕ, suc, ◌+◌, ◌-◌, ◌*◌, ◌<◌, ◌≤◌, true, List, [], ◌∷◌, ◌++◌, length, get_or, drop, set, Some, None, Option, Ok, Err, Result, sym, refl, ap, ◌∙◌, subst, arith}
 use Rattle.std.proofs.lemmas.Bool.{and_parts}
+use Rattle.std.specs.Result.{result_ok}
 use Rattle.std.proofs.lemmas.List.{get_or-set_same, get_or-set_other, drop-drop, length-set}
 use Rattle.rules.specs.Rules.{Expr}
 use Rattle.rules.specs.Bounds.{fits_depth, expr_parts}
@@ -10,7 +11,7 @@ use Rattle.wire.proofs.ExprsBack.{with_got, same_got, sized, reads_in_turns}
 use Rattle.wire.proofs.GamesBack.{one_part}
 use Rattle.eval.specs.Memory.{expr_at}
 use Rattle.eval.specs.declared.Loaded.{Loaded}
-use Rattle.eval.specs.declared.Loaded.TheVariants.{Read}
+use Rattle.eval.specs.declared.LoadError.{LoadError}
 use Rattle.eval.specs.Load.{Stands, LoadsExpr}
 use Rattle.eval.proofs.Callers.{is_loaded}
 use Rattle.rows.specs.declared.loading.End.{End}
@@ -109,6 +110,11 @@ exprs_more : (m : List ℕ) (i n : ℕ) → 0 < n → exprs_at m i n ≡ expr_at
 unfolding exprs_at
 exprs_more m i n some = let e : n ≡ suc (n - 1) = omega arith in ap (exprs_at m i) e
 
+-- what `ok` finds is what was loaded
+pub as_ok : (r : Result Loaded LoadError) (l : Loaded) → Some l ≡ result_ok r → r ≡ Ok l
+as_ok (Ok k) l h = cc
+as_ok (Err e) l h = cc
+
 -- expressions that can be read, are not too deep and have room
 module _
     (bs : List ℕ) (from n at : ℕ) (qs xs ys : List ℕ) (some : 0 < n) (size : length ys ≡ length xs) (small : length xs ≤ 4294967295)
@@ -128,53 +134,51 @@ module _
 
     -- the first is loaded
     first_loaded :
-        (r : Loaded) → LoadsExpr qs at xs ys r
-        → (used : ℕ) × (root : ℕ) × (r ≡ Read used root) × (parted.rest ≡ drop used qs) × Stands (λ f. fits_depth f 32) expr_at qs at xs ys used root parted.first
+        (r : Result Loaded LoadError) → LoadsExpr qs at xs ys r
+        → (l : Loaded) × (r ≡ Ok l) × (parted.rest ≡ drop l.used qs) × Stands (λ f. fits_depth f 32) expr_at qs at xs ys l.used l.root parted.first
     first_loaded r l =
         is_loaded qs at xs ys r parted.first parted.rest l (ap (read_exprs 1) tail ∙ parted.reads_first) fit.0 (omega (arith, count, there.enough))
 
     -- so it is not refused
-    pub not_refused : (r : Loaded) → ((u v : ℕ) → r ≡ Read u v → ⊥) → LoadsExpr qs at xs ys r → ⊥
-    not_refused r unread l = let x = first_loaded r l in unread x.0 x.1 x.2
+    pub not_refused : (r : Result Loaded LoadError) → None ≡ result_ok r → LoadsExpr qs at xs ys r → ⊥
+    not_refused r none l = let x = first_loaded r l in let some : None ≡ Some x.0 = none ∙ ap result_ok x.1 in cc
 
-    module _ (used root : ℕ) (l : LoadsExpr qs at xs ys (Read used root)) where
+    module _ (k : Loaded) (l : LoadsExpr qs at xs ys (Ok k)) where
       -- it stands where loading says
-      first_stands : Stands (λ f. fits_depth f 32) expr_at (drop from bs) at xs ys used root parted.first
+      first_stands : Stands (λ f. fits_depth f 32) expr_at (drop from bs) at xs ys k.used k.root parted.first
       first_stands =
-          let x = first_loaded (Read used root) l in
-          let u : x.0 ≡ used = cc x.2 in
-          let v : x.1 ≡ root = cc x.2 in
-          subst (λ k. Stands (λ f. fits_depth f 32) expr_at k at xs ys used root parted.first) tail
-          (subst (λ k. Stands (λ f. fits_depth f 32) expr_at qs at xs ys used k parted.first) v
-          (subst (λ k. Stands (λ f. fits_depth f 32) expr_at qs at xs ys k x.1 parted.first) u x.4))
+          let x = first_loaded (Ok k) l in
+          let same : x.0 ≡ k = cc x.1 in
+          subst (λ b. Stands (λ f. fits_depth f 32) expr_at b at xs ys k.used k.root parted.first) tail
+          (subst (λ y. Stands (λ f. fits_depth f 32) expr_at qs at xs ys y.used y.root parted.first) same x.3)
 
       -- the bytes after it
-      left_over : parted.rest ≡ drop (from + used) bs
+      left_over : parted.rest ≡ drop (from + k.used) bs
       left_over =
-          let e = same_got (parted.first ∷ []) (parted.first ∷ []) parted.rest (drop used (drop from bs)) (sym parted.reads_first ∙ first_stands.read) in
-          e.1 ∙ drop-drop used from bs
+          let e = same_got (parted.first ∷ []) (parted.first ∷ []) parted.rest (drop k.used (drop from bs)) (sym parted.reads_first ∙ first_stands.read) in
+          e.1 ∙ drop-drop k.used from bs
 
       -- with the others loaded after it, all are
       pub exprs_next :
           (table : ℕ) (zs : List ℕ) (r : Option End) → table + n ≤ at → at ≤ length xs
-          → PlacesExprs bs (from + used) (n - 1) (set ys table root) zs (table + 1) (root + 4) r
+          → PlacesExprs bs (from + k.used) (n - 1) (set ys table k.root) zs (table + 1) (k.root + 4) r
           → Places (List Expr) (λ m. exprs_at m table n) es (4 * exprs_parts es) bs q table n at xs zs r
       exprs_next table zs r before free more = go r (more parted.others q (record {
         reads = ap (read_exprs (n - 1)) (sym left_over) ∙ parted.reads_others;
         fit = fit.1;
-        enough = omega (arith, first_stands.ends, count, there.enough, length-set ys table root);
+        enough = omega (arith, first_stands.ends, count, there.enough, length-set ys table k.root);
       }))
         where
           go : (r : Option End)
-              → Places (List Expr) (λ m. exprs_at m (table + 1) (n - 1)) parted.others (4 * exprs_parts parted.others) bs q (table + 1) (n - 1) (root + 4) (set ys table root) zs r
+              → Places (List Expr) (λ m. exprs_at m (table + 1) (n - 1)) parted.others (4 * exprs_parts parted.others) bs q (table + 1) (n - 1) (k.root + 4) (set ys table k.root) zs r
               → Places (List Expr) (λ m. exprs_at m table n) es (4 * exprs_parts es) bs q table n at xs zs r
           go None h = h
           go (Some e) h =
               placed_both Expr (List Expr) (List Expr) (λ m. expr_at m (get_or m table 0)) (λ m. exprs_at m (table + 1) (n - 1)) (λ m. exprs_at m table n)
               parted.first parted.others es (4 * expr_parts parted.first) (4 * exprs_parts parted.others) (4 * exprs_parts es)
-              bs parted.rest q table 1 (n - 1) n at xs (set ys table root) zs (record { from = from + used; next = root + 4 }) e
+              bs parted.rest q table 1 (n - 1) n at xs (set ys table k.root) zs (record { from = from + k.used; next = k.root + 4 }) e
               (λ m a b. exprs_more m table n some ∙ (λ i. a i ∷ b i) ∙ sym parted.all) (omega (arith, count)) (omega arith) before
-              (one_placed bs from at table used root xs ys parted.first parted.rest (omega arith) (omega arith) left_over l.before first_stands) h
+              (one_placed bs from at table k.used k.root xs ys parted.first parted.rest (omega arith) (omega arith) left_over l.before first_stands) h
 
 -- an end that is inside is so from an earlier place on
 pub inside_earlier :

@@ -1,5 +1,5 @@
 -- What loading a game leaves. Assumes nothing: these are definitions.
-use Rattle.std.specs.Prelude.{◌≡◌, ℕ, zero, suc, ◌+◌, ◌*◌, ◌<◌, ◌≤◌, Bool, true, List, [], ◌∷◌, length, drop, IfSome, Some, Ok, Err, Option, Result, MatchOption, slice_index, slice_index_or}
+use Rattle.std.specs.Prelude.{◌≡◌, ℕ, zero, suc, ◌+◌, ◌*◌, ◌<◌, ◌≤◌, true, List, [], ◌∷◌, length, drop, IfSome, IsSome, Some, Ok, Err, Option, Result, MatchOption, slice_index, slice_index_or}
 use Rattle.rules.specs.declared.Refusal.{Refusal}
 use Rattle.rules.specs.Rules.{Expr, Effect, Rule, Game}
 use Rattle.rules.specs.Bounds.{expr_parts, game_parts, good_rules, good_game}
@@ -134,7 +134,7 @@ pub record HeaderWritten (p c n : ℕ) (xs ys : List ℕ) : Type 0 where
   pub above : (k : ℕ) → 3 ≤ k → slice_index ys k ≡ slice_index xs k
 
 -- a good game of size z is filled in, and is the game of whatever memory has the same words
-abbrev pub Fills : List ℕ → GameSize → List ℕ → Bool → Type 0
+abbrev pub Fills : List ℕ → GameSize → List ℕ → Option Unit → Type 0
 Fills bs z ys r =
     (g : Game) → parse_game bs ≡ Some g → good_game g ≡ true → z ≡ size_of g
-    → (r ≡ true) × ((zs : List ℕ) → SameBetween 0 (words_needed z) zs ys → game_at zs ≡ g)
+    → IsSome r × ((zs : List ℕ) → SameBetween 0 (words_needed z) zs ys → game_at zs ≡ g)

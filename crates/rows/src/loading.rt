@@ -6,8 +6,8 @@ ghost use Rattle.rows.specs.Layout.{words_needed};
 ghost use Rattle.rows.specs.Load.{WordsAreEnough, EndsInside, PlacesExprs, RuleWritten, PlacesRule, PlacesRules, HeaderWritten, Fills, LoadsGame};
 
 use eval::{Loaded, load_expr};
-use rules::Refusal;
-use wire::{GameSize, check_game};
+use rules::{Reason, Refusal};
+use wire::{GameSize, check_game, two_bytes};
 
 // Where reading goes on in the bytes, and where memory is free.
 #[derive(Clone, Copy)]
@@ -42,14 +42,6 @@ pub fn every_game_has_memory() -> u8
     0
 }
 
-// The number in the two bytes from `at` on.
-fn two_bytes(bytes: &[u8], at: usize) -> u32
-    requires { at + 2 ≤ length bytes.now }
-    ensures { result ≡ word_at bytes.now at }
-{
-    bytes[at] as u32 + 256 * bytes[at + 1] as u32
-}
-
 // Loads `count` expressions, and notes their places in the words from `table` on.
 fn load_exprs(
     bytes: &[u8],
@@ -69,9 +61,7 @@ fn load_exprs(
     if count == 0 {
         return Some(End { from, next: at });
     }
-    let Loaded::Read { used, root } = load_expr(&bytes[from..], rules, at) else {
-        return None;
-    };
+    let Loaded { used, root } = load_expr(&bytes[from..], rules, at).ok()?;
     rules[table] = root;
     load_exprs(bytes, from + used, count - 1, rules, table + 1, root + 4)
 }
@@ -99,9 +89,7 @@ fn load_rule(bytes: &[u8], from: usize, rules: &mut [u32], row: usize, at: u32) 
     if bytes.len() - from < 4 {
         return None;
     }
-    let Some(guard) = load_exprs(bytes, from + 4, 1, rules, row + 2, at) else {
-        return None;
-    };
+    let guard = load_exprs(bytes, from + 4, 1, rules, row + 2, at)?;
     if bytes.len() <= guard.from {
         return None;
     }
@@ -110,21 +98,19 @@ fn load_rule(bytes: &[u8], from: usize, rules: &mut [u32], row: usize, at: u32) 
     if rules.len() - table < 2 * count as usize {
         return None;
     }
-    let Some(end) = load_exprs(
+    let end = load_exprs(
         bytes,
         guard.from + 1,
         2 * count as usize,
         rules,
         table,
         guard.next + 2 * count,
-    ) else {
-        return None;
-    };
+    )?;
     put_rule(
         rules,
         row,
-        two_bytes(bytes, from),
-        two_bytes(bytes, from + 2),
+        u32::from(two_bytes(bytes, from)),
+        u32::from(two_bytes(bytes, from + 2)),
         count,
         guard.next,
     );
@@ -150,9 +136,7 @@ fn load_rules(
     if count == 0 {
         return Some(End { from, next: at });
     }
-    let Some(one) = load_rule(bytes, from, rules, row, at) else {
-        return None;
-    };
+    let one = load_rule(bytes, from, rules, row, at)?;
     load_rules(bytes, one.from, count - 1, rules, row + 5, one.next)
 }
 
@@ -163,7 +147,7 @@ fn load_cells(bytes: &[u8], count: usize, rules: &mut [u32])
     ensures { (k : ℕ) → k < count → slice_index rules.new (5 + k) ≡ word_at bytes.now (3 + 2 * k) }
 {
     for k in 0..count {
-        rules[5 + k] = two_bytes(bytes, 3 + 2 * k);
+        rules[5 + k] = u32::from(two_bytes(bytes, 3 + 2 * k));
     }
 }
 
@@ -177,8 +161,8 @@ fn put_header(rules: &mut [u32], players: u32, cells: u32, count: u32)
     rules[2] = count;
 }
 
-// Fills memory with a game of this size, and says whether it could.
-fn load_game(bytes: &[u8], size: GameSize, rules: &mut [u32]) -> bool
+// Fills memory with a game of this size, if it can.
+fn load_game(bytes: &[u8], size: GameSize, rules: &mut [u32]) -> Option<()>
     requires all { length rules.old ≡ words_needed size }
     requires small { length rules.old ≤ 4294967295 }
     ensures { Fills bytes.now size rules.new result }
@@ -187,18 +171,14 @@ fn load_game(bytes: &[u8], size: GameSize, rules: &mut [u32]) -> bool
     let count = size.rules as usize;
     let past = 3 + 2 * cells;
     if bytes.len() <= past {
-        return false;
+        return None;
     }
     load_cells(bytes, cells, rules);
     let row = 5 + cells;
-    let Some(all) = load_rules(bytes, past + 1, count, rules, row, (row + 5 * count) as u32) else {
-        return false;
-    };
-    let Some(_) = load_exprs(bytes, all.from, 2, rules, 3, all.next) else {
-        return false;
-    };
+    let all = load_rules(bytes, past + 1, count, rules, row, (row + 5 * count) as u32)?;
+    load_exprs(bytes, all.from, 2, rules, 3, all.next)?;
     put_header(rules, size.players, size.cells, size.rules);
-    true
+    Some(())
 }
 
 // Loads a game. Refused as the check refuses it, or with number 3 at place 2 if there is too little room; nothing is written then.
@@ -208,16 +188,8 @@ pub fn load(bytes: &[u8], rules: &mut [u32]) -> Result<GameSize, Refusal>
     let size = check_game(bytes)?;
     let words = words_needed(size);
     if rules.len() < words {
-        return Err(Refusal {
-            number: 3,
-            place: 2,
-        });
+        return Err(Reason::NoMemory.into());
     }
-    if !load_game(bytes, size, &mut rules[0..words]) {
-        return Err(Refusal {
-            number: 3,
-            place: 0,
-        });
-    }
+    load_game(bytes, size, &mut rules[..words]).ok_or(Reason::NoGame)?;
     Ok(size)
 }

@@ -5,6 +5,7 @@ ghost use Rattle.rows.specs.Layout.{game_at, effects_at};
 ghost use Rattle.rows.specs.Reading.{header, IsGame, ReadsRule};
 
 use eval::{eval, word_at};
+use wire::put;
 
 // The five words that a game begins with: how many players, cells and rules it has, and where its terminal and its payoff are.
 #[derive(Clone, Copy)]
@@ -37,16 +38,6 @@ struct EffectRow {
 const HEADER: usize = 5;
 
 const RULE_WORDS: usize = 5;
-
-// Cell `i` gets `v`; where no such cell is on the board, nothing happens.
-fn put_cell(cells: &mut [u32], i: u32, v: u32)
-    ensures { cells.new ≡ slice_set cells.old i v }
-{
-    let k = i as usize;
-    if k < cells.len() {
-        cells[k] = v;
-    }
-}
 
 // The words that the game begins with.
 pub fn read_game(rules: &[u32]) -> GameRow
@@ -120,6 +111,6 @@ pub fn apply_effects(
         let effect = read_effect(rules, at);
         let cell = eval(rules, effect.cell, cells, first, second, me);
         let value = eval(rules, effect.value, cells, first, second, me);
-        put_cell(cells, cell, value);
+        put(cells, cell as usize, value);
     }
 }

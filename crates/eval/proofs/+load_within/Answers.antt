@@ -1,24 +1,27 @@
-use Rattle.std.proofs.Common.{◌-◌, [], ◌∷◌, ◌++◌, get_or, refl, arith}
+use Rattle.std.proofs.Common.{◌≡◌, ◌-◌, [], ◌∷◌, ◌++◌, refl, sym, ap, ◌∙◌, rules, arith}
 use Rattle.std.proofs.lemmas.List.{take_rest}
-use Rattle.eval.proofs.Loading.{nothing, short_number, unknown_kind, at_levels, number, no_parts, next_part, all_parts, refuse}
+use Rattle.std.proofs.lemmas.Result.{err_from_is_err_and}
+use denote.Enum.Bare.{same_true, same_false}
+use Rattle.wire.specs.Kinds.{kind_number}
+use Rattle.wire.specs.declared.kinds.ExprKind.TheVariants.{Num}
+use Rattle.wire.specs.contracts.kinds.ExprKind.{the_type}
+use Rattle.eval.proofs.Loading.{at_levels, other_kind, number, no_parts, next_part, all_parts, refuse}
 use Rattle.eval.proofs.+load_within.Goals as goal
 
-pub returns-then-bytes-eq0 : goal.returns-then-bytes-eq0
-returns-then-bytes-eq0 t c = record { outcome = nothing c.args.bytes.now (omega arith); before = λ k h. refl }
+pub returns-in_err-kind : goal.returns-in_err-kind
+returns-in_err-kind t c =
+    let p = err_from_is_err_and c.from_residual.result c.from_residual.ensures.1 in
+    rw (p.1, p.2, c.in_err-kind.ensures.0) (record { outcome = c.in_err-kind.ensures.1; before = λ k h. refl })
 
-pub returns-then-bytes-lt3 : goal.returns-then-bytes-lt3
-returns-then-bytes-lt3 t c = record { outcome = short_number c.args.bytes.now (omega arith) (omega arith); before = λ k h. refl }
-
-pub returns-then-kind-gt-LAST_KIND : goal.returns-then-kind-gt-LAST_KIND
-returns-then-kind-gt-LAST_KIND t c = record { outcome = unknown_kind c.args.bytes.now (omega arith); before = λ k h. refl }
-
-pub returns-then-kind-eq0 : goal.returns-then-kind-eq0
-returns-then-kind-eq0 t c =
+pub returns-then-eq : goal.returns-then-eq
+returns-then-eq t c =
+    let none : kind_number c.in_ok-kind.kind ≡ 0 = ap kind_number (same_true the_type (search rules) c.in_ok-kind.kind Num (sym c.if-eq.ensures)) in
     at_levels c.args.levels c.args.bytes.now c.args.at _ _ _ c.if-levels-eq0.false
-    (number c.args.bytes.now _ c.args.at _ _ _ c.if-kind-eq0.true (omega arith) (c.type_inv.bytes 1).fits (c.type_inv.bytes 2).fits c.put_row.ensures)
+    (number c.args.bytes.now _ c.args.at _ _ _ _ _ none (c.from-number.ensures ∙ c.two_bytes.ensures.value) c.in_ok-kind.ensures.1
+    (c.in_ok-kind.ensures.2 none) (omega arith) c.put_row.ensures)
 
 pub loop-j-init : goal.loop-j-init
-loop-j-init t c = ([], no_parts c.args.bytes.now c.args.rules.now _ c.args.at _ refl (omega arith))
+loop-j-init t c = ([], no_parts c.args.bytes.now c.args.rules.now _ c.args.at _ refl c.in_ok-kind.ensures.0)
 
 pub slice_bounds-load_within-count : goal.slice_bounds-load_within-count
 slice_bounds-load_within-count t c = omega (arith, c.loop-j.invariant.1.within)
@@ -26,17 +29,19 @@ slice_bounds-load_within-count t c = omega (arith, c.loop-j.invariant.1.within)
 pub slice_bounds-load_within-start : goal.slice_bounds-load_within-start
 slice_bounds-load_within-start t c = omega (arith, c.loop-j.invariant.1.within)
 
-pub returns-in_default : goal.returns-in_default
-returns-in_default t c =
+pub returns-in_err-part : goal.returns-in_err-part
+returns-in_err-part t c =
     let bs = c.args.bytes.now in
-    let arity = c.arity_of-j-end.ensures.known (omega arith) (omega arith) in
-    at_levels c.args.levels bs c.args.at _ _ _ c.if-levels-eq0.false
-    (refuse bs (get_or bs 0 0 - 1) (omega arith) (omega arith) (omega arith) _ _ _ _ _ _ _ _ _ c.loop-j.invariant.1 (omega arith) _ _ _
-    c.in_default.not-Read (take_rest bs c.loop-j.used) c.load_within-part.ensures)
+    let p = err_from_is_err_and c.from_residual-in_err-part.result c.from_residual-in_err-part.ensures.1 in
+    let known = other_kind c.in_ok-kind.kind (same_false the_type _ _ (sym c.if-eq.ensures)) in
+    let arity = c.arity-j-end.ensures.known known.0 in
+    rw (p.1, p.2) (at_levels c.args.levels bs c.args.at _ _ _ c.if-levels-eq0.false
+    (refuse bs (kind_number c.in_ok-kind.kind - 1) c.in_ok-kind.ensures.0 (omega (arith, c.in_ok-kind.ensures.1)) (omega arith) _ _ _ _ _ _ _ _ _
+    c.loop-j.invariant.1 (omega arith) _ _ _ (take_rest bs c.loop-j.used) c.in_err-part.ensures))
 
 pub loop-j-preserved : goal.loop-j-preserved
 loop-j-preserved t c =
-    let part = c.in-Read.ensures in (
+    let part = c.in_ok-part.ensures in (
       c.loop-j.invariant.0 ++ part.outcome.0 ∷ [],
       next_part c.args.bytes.now _ _ _ _ _ _ _ _ _ c.loop-j.invariant.1 (omega arith) _ _ _ _ part.outcome.0
           (take_rest c.args.bytes.now c.loop-j.used) part.before part.outcome.1,
@@ -45,6 +50,8 @@ loop-j-preserved t c =
 pub returns : goal.returns
 returns t c =
     let bs = c.args.bytes.now in
-    let arity = c.arity_of-j-end.ensures.known (omega arith) (omega arith) in
+    let known = other_kind c.in_ok-kind.kind (same_false the_type _ _ (sym c.if-eq.ensures)) in
+    let arity = c.arity-j-end.ensures.known known.0 in
     at_levels c.args.levels bs c.args.at _ _ _ c.if-levels-eq0.false
-    (all_parts bs (get_or bs 0 0 - 1) (omega arith) (omega arith) (omega arith) _ _ _ _ _ _ _ _ _ c.loop-j.invariant.1 _ _ (omega arith) c.put_row-2.ensures)
+    (all_parts bs (kind_number c.in_ok-kind.kind - 1) c.in_ok-kind.ensures.0 (omega (arith, c.in_ok-kind.ensures.1)) (omega arith) _ _ _ _ _ _ _ _ _
+    c.loop-j.invariant.1 _ _ (omega arith) (rw (c.in_ok-kind.ensures.1) c.put_row-2.ensures))

@@ -3,4 +3,4 @@ use Rattle.eval.proofs.eval.Goals as goal
 
 pub returns : goal.returns
 unfolding expr_at
-returns c = c.eval_within.ensures
+returns c = c.value.ensures

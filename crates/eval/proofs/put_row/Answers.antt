@@ -1,0 +1,6 @@
+use Rattle.std.proofs.Common.{rules}
+use Rattle.std.proofs.lemmas.List.{places}
+use Rattle.eval.proofs.put_row.Goals as goal
+
+pub returns : goal.returns
+returns c = search (rules, places)
