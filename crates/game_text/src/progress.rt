@@ -91,3 +91,18 @@ pub struct Reader {
     pub at: Progress,
     pub token: Token,
 }
+
+// Before any byte.
+pub const START: Reader = Reader {
+    at: Progress {
+        stage: Stage::PlayersWord,
+        part: Part::Guard,
+        more: 0,
+        cells: 0,
+        rules: 0,
+        sets: 0,
+        len: 0,
+        sets_at: 0,
+    },
+    token: Token::Gap,
+};

@@ -5,16 +5,15 @@ ghost use Rattle.game_text.specs.Room.{Fine, slack};
 ghost use Rattle.game_text.specs.declared.progress.Word.TheVariants.{Rule, Over, Set};
 
 use super::progress::{Part, Progress, Stage, Word};
-use super::put_byte;
-use wire::arity_of;
+use wire::{arity_of, put};
 
 // A number of two bytes.
 fn put_two(out: &mut [u8], at: usize, n: usize)
     requires { (n < 65536) × (at + 1 < 2 ^ 64) }
     ensures { out.new ≡ put_two out.old at n }
 {
-    put_byte(out, at, (n % 256) as u8);
-    put_byte(out, at + 1, (n / 256) as u8);
+    put(out, at, (n % 256) as u8);
+    put(out, at + 1, (n / 256) as u8);
 }
 
 // All of a part was read.
@@ -29,7 +28,7 @@ fn end_part(p: Progress, out: &mut [u8]) -> Progress
     };
     match p.part {
         Part::Guard => {
-            put_byte(out, p.len, 0);
+            put(out, p.len, 0);
             Progress {
                 stage: Stage::Sets,
                 sets: 0,
@@ -88,7 +87,7 @@ pub(super) fn take_number(n: usize, p: Progress, out: &mut [u8]) -> Progress
 {
     match p.stage {
         Stage::PlayersNumber => {
-            put_byte(out, p.len, n as u8);
+            put(out, p.len, n as u8);
             Progress {
                 stage: Stage::CellsWord,
                 len: p.len + 1,
@@ -107,7 +106,7 @@ pub(super) fn take_number(n: usize, p: Progress, out: &mut [u8]) -> Progress
         Stage::FirstBound => take_bound(n, Stage::SecondBound, p, out),
         Stage::SecondBound => take_bound(n, Stage::MayWord, p, out),
         Stage::Expr => {
-            put_byte(out, p.len, 0);
+            put(out, p.len, 0);
             put_two(out, p.len + 1, n);
             await_more(
                 p.more,
@@ -132,7 +131,7 @@ fn begin_rule(p: Progress, out: &mut [u8]) -> Progress
     requires { (p.rules < 255) × ((p.len + 2 < 2 ^ 64) × (p.cells ≤ 65535)) }
     ensures { record { at = result; memory = out.new } ≡ word_taken Rule p out.old }
 {
-    put_byte(out, 3 + 2 * p.cells, (p.rules + 1) as u8);
+    put(out, 3 + 2 * p.cells, (p.rules + 1) as u8);
     let len = if p.rules == 0 { p.len + 1 } else { p.len };
     Progress {
         stage: Stage::FirstBound,
@@ -156,7 +155,7 @@ fn end_rules(p: Progress, out: &mut [u8]) -> Progress
         ..p
     };
     if p.rules == 0 {
-        put_byte(out, p.len, 0);
+        put(out, p.len, 0);
         return Progress {
             len: p.len + 1,
             ..next
@@ -170,7 +169,7 @@ fn begin_effect(p: Progress, out: &mut [u8]) -> Progress
     requires { p.sets < 255 }
     ensures { record { at = result; memory = out.new } ≡ word_taken Set p out.old }
 {
-    put_byte(out, p.sets_at, (p.sets + 1) as u8);
+    put(out, p.sets_at, (p.sets + 1) as u8);
     Progress {
         stage: Stage::Expr,
         part: Part::Effect,
@@ -214,7 +213,7 @@ pub(super) fn take_word(w: Word, p: Progress, out: &mut [u8]) -> Progress
             ..p
         },
         Word::Kind(k) => {
-            put_byte(out, p.len, k);
+            put(out, p.len, k);
             let next = Progress {
                 stage: Stage::Expr,
                 len: p.len + 1,
