@@ -1,9 +1,11 @@
 -- How much a piece adds at most.
-use Rattle.std.proofs.Common.{◌≡◌, ℕ, zero, suc, ◌+◌, ◌-◌, ◌<◌, ◌≤◌, eqb, List, set, sym, ap, subst, arith}
+use Rattle.std.proofs.Common.{◌≡◌, ℕ, zero, suc, ◌+◌, ◌-◌, ◌<◌, ◌≤◌, eqb, List, set, sym, ap, arith}
 use Rattle.std.proofs.lemmas.Bool.{cond_both}
 use Rattle.std.proofs.lemmas.Bool.Decides.{nat_tests}
 use Rattle.wire.specs.Exprs.{kind_after}
-use Rattle.wire.proofs.ExprsKinds.{arity_table}
+use Rattle.wire.specs.Kinds.{kind_number}
+use Rattle.wire.specs.declared.kinds.ExprKind.{ExprKind}
+use Rattle.wire.specs.declared.kinds.ExprKind.TheVariants as kinds
 use Rattle.game_text.specs.declared.progress.Part.{Part}
 use Rattle.game_text.specs.declared.progress.Part.TheVariants.{Guard, Effect, Terminal, Payoff}
 use Rattle.game_text.specs.declared.progress.Stage.{Stage}
@@ -51,8 +53,21 @@ number_grew Sets n p memory e b h = absurd (omega arith)
 number_grew GainWord n p memory e b h = absurd (omega arith)
 number_grew End n p memory e b h = absurd (omega arith)
 
-arity_few : (k : ℕ) → 1 ≤ k → k ≤ 12 → (kind_after (k - 1)).arity ≤ 3
-arity_few k lo hi = subst (λ a. a ≤ 3) (sym (arity_table k lo hi)) (grind (arith, nat_tests))
+arity_few : (k : ExprKind) → 1 ≤ kind_number k → (kind_after (kind_number k - 1)).arity ≤ 3
+unfolding kind_after
+arity_few kinds.Num h = omega arith
+arity_few kinds.Cell h = omega arith
+arity_few kinds.First h = omega arith
+arity_few kinds.Second h = omega arith
+arity_few kinds.Me h = omega arith
+arity_few kinds.Add h = omega arith
+arity_few kinds.Sub h = omega arith
+arity_few kinds.Mul h = omega arith
+arity_few kinds.Div h = omega arith
+arity_few kinds.Rem h = omega arith
+arity_few kinds.Lt h = omega arith
+arity_few kinds.Eq h = omega arith
+arity_few kinds.If h = omega arith
 
 -- a word that may come
 pub word_grew : (w : Word) (p : Progress) (memory : List ℕ) → Fine w p → p.cells ≤ 65535 → Grew p (word_taken w p memory).at
@@ -71,7 +86,7 @@ word_grew Over p memory f h =
 word_grew Gain p memory f h = record { bytes = omega arith; few = omega arith; cells = h }
 word_grew (Kind k) p memory f h =
     let q : Progress = staged Expr (p.len + 1) p in
-    let g = pending_grew (p.more + (kind_after (k - 1)).arity) q (set memory p.len k) h (omega (arith, arity_few k f.0 f.1)) in
+    let g = pending_grew (p.more + (kind_after (kind_number k - 1)).arity) q (set memory p.len (kind_number k)) h (omega (arith, arity_few k f)) in
     record { bytes = omega (arith, g.0); few = g.1; cells = g.2 }
 
 -- a piece was taken at place i, and with the byte there the next begins

@@ -38,26 +38,26 @@ all_fine FirstBound p = tt
 all_fine SecondBound p = tt
 all_fine MayWord p = (tt, tt)
 all_fine Expr p = (
-  (omega arith, omega arith),
+  omega arith,
   (
-    (omega arith, omega arith),
+    omega arith,
     (
-      (omega arith, omega arith),
+      omega arith,
       (
-        (omega arith, omega arith),
+        omega arith,
         (
-          (omega arith, omega arith),
+          omega arith,
           (
-            (omega arith, omega arith),
+            omega arith,
             (
-              (omega arith, omega arith),
+              omega arith,
               (
-                (omega arith, omega arith),
+                omega arith,
                 (
-                  (omega arith, omega arith),
+                  omega arith,
                   (
-                    (omega arith, omega arith),
-                    ((omega arith, omega arith), ((omega arith, omega arith), tt)),
+                    omega arith,
+                    (omega arith, (omega arith, tt)),
                   ),
                 ),
               ),

@@ -1,5 +1,6 @@
 -- What holds of reading at every byte, so that no number in the code is too large. No reader has to believe these: the contract of the whole does not name them.
 use Rattle.std.specs.Prelude.{◌≡◌, ℕ, ◌+◌, ◌-◌, ◌*◌, ◌<◌, ◌≤◌, List, take, drop, Some, None, Option}
+use Rattle.wire.specs.Kinds.{kind_number}
 use Rattle.game_text.specs.declared.progress.Stage.{Stage}
 use Rattle.game_text.specs.declared.progress.Stage.TheVariants.{PlayersWord, PlayersNumber, CellsWord, Values, FirstBound, SecondBound, MayWord, Expr, Sets, GainWord, End}
 use Rattle.game_text.specs.declared.progress.Word.{Word}
@@ -19,7 +20,7 @@ Fine May p = Unit {0}
 Fine Set p = p.sets < 255
 Fine Over p = Unit {0}
 Fine Gain p = Unit {0}
-Fine (Kind k) p = (1 ≤ k) × (k ≤ 12)
+Fine (Kind k) p = 1 ≤ kind_number k
 
 -- how many bytes may be written for the piece that comes next, beyond the four that any piece has at most
 abbrev pub slack : Stage → ℕ

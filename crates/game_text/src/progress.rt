@@ -1,5 +1,7 @@
 // What reading a game's text remembers. How it goes on, byte by byte, stands in specs/Machine.
 
+use wire::ExprKind;
+
 // The four places of a game where expressions stand.
 #[derive(Clone, Copy)]
 pub enum Part {
@@ -25,7 +27,7 @@ pub enum Stage {
     End,
 }
 
-// The words of a game's text; those of expressions by their kinds, from 1 on.
+// The words of a game's text; those of expressions by their kinds.
 #[derive(Clone, Copy)]
 pub enum Word {
     Players,
@@ -35,7 +37,7 @@ pub enum Word {
     Set,
     Over,
     Gain,
-    Kind(u8),
+    Kind(ExprKind),
 }
 
 // How far reading has come. `part` and `more` count while an expression is awaited: `more` expressions of the part follow it.

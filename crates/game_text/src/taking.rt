@@ -5,7 +5,7 @@ ghost use Rattle.game_text.specs.Room.{Fine, slack};
 ghost use Rattle.game_text.specs.declared.progress.Word.TheVariants.{Rule, Over, Set};
 
 use super::progress::{Part, Progress, Stage, Word};
-use wire::{arity_of, put};
+use wire::put;
 
 // A number of two bytes.
 fn put_two(out: &mut [u8], at: usize, n: usize)
@@ -117,12 +117,7 @@ pub(super) fn take_number(n: usize, p: Progress, out: &mut [u8]) -> Progress
                 out,
             )
         }
-        Stage::PlayersWord => p,
-        Stage::CellsWord => p,
-        Stage::MayWord => p,
-        Stage::Sets => p,
-        Stage::GainWord => p,
-        Stage::End => p,
+        _ => p,
     }
 }
 
@@ -212,14 +207,14 @@ pub(super) fn take_word(w: Word, p: Progress, out: &mut [u8]) -> Progress
             more: 0,
             ..p
         },
-        Word::Kind(k) => {
-            put(out, p.len, k);
+        Word::Kind(kind) => {
+            put(out, p.len, u8::from(kind));
             let next = Progress {
                 stage: Stage::Expr,
                 len: p.len + 1,
                 ..p
             };
-            await_more(p.more + arity_of(k), next, out)
+            await_more(p.more + kind.arity(), next, out)
         }
     }
 }
