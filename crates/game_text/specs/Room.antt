@@ -40,13 +40,11 @@ slack End = 2
 pub record Room (p : Progress) (n : ℕ) : Type 0 where
   pub bytes : p.len + slack p.stage ≤ 2 * n
   pub few : p.more ≤ n
-  pub cells : p.cells ≤ 65535
 
 -- a piece was taken
 pub record Grew (p q : Progress) : Type 0 where
   pub bytes : q.len + slack q.stage ≤ p.len + slack p.stage + 4
   pub few : q.more ≤ p.more + 2
-  pub cells : q.cells ≤ 65535
 
 abbrev pub Roomy : Option Progress → ℕ → Type 0
 Roomy None n = Unit {0}

@@ -47,9 +47,9 @@ pub struct Progress {
     pub stage: Stage,
     pub part: Part,
     pub more: usize,
-    pub cells: usize,
-    pub rules: usize,
-    pub sets: usize,
+    pub cells: u16,
+    pub rules: u8,
+    pub sets: u8,
     pub len: usize,
     pub sets_at: usize,
 }
@@ -84,7 +84,7 @@ pub struct Fault {
 pub enum Token {
     Gap,
     Comment,
-    Digits(usize),
+    Digits(u16),
     Letters(usize),
 }
 

@@ -37,15 +37,19 @@ pub(super) fn settle(
 }
 
 // One more digit, if the number stays small enough.
-fn add_digit(n: usize, b: u8, i: usize, p: Progress) -> Option<Token>
-    requires { (n < 65536) × (Room p i) }
+fn add_digit(n: u16, b: u8, i: usize, p: Progress) -> Option<Token>
+    requires { Room p i }
     ensures { SameDigits (more_digits n b p) (i + 1) p result }
 {
     if !b.is_ascii_digit() {
         return None;
     }
-    let more = n * 10 + usize::from(b - b'0');
-    (more < bound_of(p)).then_some(Token::Digits(more))
+    let more = usize::from(n) * 10 + usize::from(b - b'0');
+    if more < bound_of(p) {
+        Some(Token::Digits(more as u16))
+    } else {
+        None
+    }
 }
 
 // One more letter of the word that began at `from`, if a word may go on so.

@@ -1,5 +1,5 @@
 // What a number or a word, once read, adds to the bytes of the game.
-ghost use Rattle.std.specs.Prelude.{◌≡◌, ◌+◌, ◌^◌, ◌<◌, ◌≤◌};
+ghost use Rattle.std.specs.Prelude.{◌≡◌, ◌+◌, ◌^◌, ◌<◌};
 ghost use Rattle.game_text.specs.Machine.{State, state_of, staged, put_two, part_ended, pending, number_taken, word_taken, bound};
 ghost use Rattle.game_text.specs.Room.{Fine, slack};
 ghost use Rattle.game_text.specs.declared.progress.Word.TheVariants.{Rule, Over, Set};
@@ -8,12 +8,13 @@ use super::progress::{Part, Progress, Stage, Word};
 use wire::put;
 
 // A number of two bytes.
-fn put_two(out: &mut [u8], at: usize, n: usize)
-    requires { (n < 65536) × (at + 1 < 2 ^ 64) }
+fn put_two(out: &mut [u8], at: usize, n: u16)
+    requires { at + 1 < 2 ^ 64 }
     ensures { out.new ≡ put_two out.old at n }
 {
-    put(out, at, (n % 256) as u8);
-    put(out, at + 1, (n / 256) as u8);
+    let [low, high] = n.to_le_bytes();
+    put(out, at, low);
+    put(out, at + 1, high);
 }
 
 // All of a part was read.
@@ -68,8 +69,8 @@ fn await_more(count: usize, p: Progress, out: &mut [u8]) -> Progress
 }
 
 // A bound of a rule, and what is awaited after it.
-fn take_bound(n: usize, then: Stage, p: Progress, out: &mut [u8]) -> Progress
-    requires { (n < 65536) × (p.len + 2 < 2 ^ 64) }
+fn take_bound(n: u16, then: Stage, p: Progress, out: &mut [u8]) -> Progress
+    requires { p.len + 2 < 2 ^ 64 }
     ensures { record { at = result; memory = out.new } ≡ state_of (staged «then» (p.len + 2) p) (put_two out.old p.len n) }
 {
     put_two(out, p.len, n);
@@ -81,8 +82,8 @@ fn take_bound(n: usize, then: Stage, p: Progress, out: &mut [u8]) -> Progress
 }
 
 // A number that may come next.
-pub(super) fn take_number(n: usize, p: Progress, out: &mut [u8]) -> Progress
-    requires { (n < bound p.stage p) × ((p.len + slack p.stage + 2 < 2 ^ 64) × (p.cells ≤ 65535)) }
+pub(super) fn take_number(n: u16, p: Progress, out: &mut [u8]) -> Progress
+    requires { (n < bound p.stage p) × (p.len + slack p.stage + 2 < 2 ^ 64) }
     ensures { record { at = result; memory = out.new } ≡ number_taken p.stage n p out.old }
 {
     match p.stage {
@@ -123,10 +124,10 @@ pub(super) fn take_number(n: usize, p: Progress, out: &mut [u8]) -> Progress
 
 // A rule begins: one more is counted, behind the cells.
 fn begin_rule(p: Progress, out: &mut [u8]) -> Progress
-    requires { (p.rules < 255) × ((p.len + 2 < 2 ^ 64) × (p.cells ≤ 65535)) }
+    requires { (p.rules < 255) × (p.len + 2 < 2 ^ 64) }
     ensures { record { at = result; memory = out.new } ≡ word_taken Rule p out.old }
 {
-    put(out, 3 + 2 * p.cells, (p.rules + 1) as u8);
+    put(out, 3 + 2 * usize::from(p.cells), p.rules + 1);
     let len = if p.rules == 0 { p.len + 1 } else { p.len };
     Progress {
         stage: Stage::FirstBound,
@@ -164,7 +165,7 @@ fn begin_effect(p: Progress, out: &mut [u8]) -> Progress
     requires { p.sets < 255 }
     ensures { record { at = result; memory = out.new } ≡ word_taken Set p out.old }
 {
-    put(out, p.sets_at, (p.sets + 1) as u8);
+    put(out, p.sets_at, p.sets + 1);
     Progress {
         stage: Stage::Expr,
         part: Part::Effect,
@@ -176,7 +177,7 @@ fn begin_effect(p: Progress, out: &mut [u8]) -> Progress
 
 // A word that may come next.
 pub(super) fn take_word(w: Word, p: Progress, out: &mut [u8]) -> Progress
-    requires { (Fine w p) × ((p.len + 2 < 2 ^ 64) × ((p.cells ≤ 65535) × (p.more + 3 < 2 ^ 64))) }
+    requires { (Fine w p) × ((p.len + 2 < 2 ^ 64) × (p.more + 3 < 2 ^ 64)) }
     ensures { record { at = result; memory = out.new } ≡ word_taken w p out.old }
 {
     match w {

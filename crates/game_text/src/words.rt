@@ -6,9 +6,9 @@ use super::progress::{Expected, Progress, Stage, Word};
 use wire::ExprKind;
 
 // At most so many rules, and effects in a rule.
-const MOST: usize = 255;
+const MOST: u8 = 255;
 
-const MOST_CELLS: usize = 65535;
+const MOST_CELLS: u16 = 65535;
 
 const KIND_WORDS: [Word; 12] = [
     Word::Kind(ExprKind::Cell),

@@ -8,7 +8,7 @@ use Rattle.game_text.proofs.read_game.Goals as goal
 
 pub loop-i-init : goal.loop-i-init
 unfolding read
-loop-i-init c = (record { bytes = omega arith; few = omega arith; cells = omega arith }, refl)
+loop-i-init c = (record { bytes = omega arith; few = omega arith }, refl)
 
 pub loop-i-preserved : goal.loop-i-preserved
 loop-i-preserved c =

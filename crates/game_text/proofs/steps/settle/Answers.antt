@@ -7,7 +7,7 @@ pub take_word-requires : goal.take_word-requires
 take_word-requires c =
     let d = subst (λ x. Sane c.args.i c.args.p x) c.in-Letters.is c.requires.1 in (
       look_fine _ c.args.p _ c.in_ok-w-in-Letters.w c.in_ok-w-in-Letters.ensures,
-      (omega (arith, d.0.bytes), (d.0.cells, omega (arith, d.0.few))),
+      (omega (arith, d.0.bytes), omega (arith, d.0.few)),
     )
 
 pub returns-in-Digits : goal.returns-in-Digits
