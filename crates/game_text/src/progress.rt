@@ -1,5 +1,9 @@
 // What reading a game's text remembers. How it goes on, byte by byte, stands in specs/Machine.
 
+ghost use Rattle.std.specs.Prelude.{Some};
+ghost use Rattle.game_text.specs.Expecting.{told};
+
+use std::fmt;
 use wire::ExprKind;
 
 // The four places of a game where expressions stand.
@@ -70,6 +74,30 @@ pub enum Expected {
     TheOver,
     TheGain,
     TheEnd,
+}
+
+// In words, for messages.
+impl fmt::Display for Expected {
+    ghost output = { λ e. Some (told e) };
+
+    fn fmt<W: fmt::Write>(&self, f: &mut fmt::Formatter<W>) -> fmt::Result {
+        f.write_str(match self {
+            Expected::ThePlayers => "the word 'players'",
+            Expected::PlayerCount => "the number of players, at most 255,",
+            Expected::TheCells => "the word 'cells'",
+            Expected::CellRuleOrOver =>
+                "the next cell's number, at most 65535, or 'rule' or 'over'",
+            Expected::RuleOrOver => "'rule' or 'over'",
+            Expected::Number => "a number, at most 65535,",
+            Expected::TheMay => "the word 'may'",
+            Expected::AnExpression => "an expression",
+            Expected::SetRuleOrOver => "'set', 'rule' or 'over'",
+            Expected::SetOrOver => "'set' or 'over'",
+            Expected::TheOver => "the word 'over'",
+            Expected::TheGain => "the word 'gain'",
+            Expected::TheEnd => "the end of the game",
+        })
+    }
 }
 
 // Where a text can't be read on: the first byte that doesn't fit, or the text's end, and what could have come.
