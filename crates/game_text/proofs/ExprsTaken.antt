@@ -1,9 +1,12 @@
 -- Pieces that the machine takes as expressions are the pieces of expressions.
-use Rattle.std.proofs.Common.{◌≡◌, ℕ, zero, suc, ◌+◌, ◌-◌, ◌<◌, ◌≤◌, true, false, ◌&&◌, ltb, List, [], ◌∷◌, ◌++◌, length, get_or, take, drop, set, Some, None, sym, refl, ap, ◌∙◌, subst, arith}
+use Rattle.std.proofs.Common.{◌≡◌, ℕ, zero, suc, ◌+◌, ◌-◌, ◌<◌, ◌≤◌, true, false, ◌&&◌, ltb, List, [], ◌∷◌, ◌++◌, length, get_or, take, drop, set, Some, None, codes, sym, refl, ap, ◌∙◌, subst, arith}
 use Rattle.std.proofs.lemmas.List.{append_assoc, append-nil, length-take-le, length-drop, take-append-drop}
 use Rattle.std.proofs.lemmas.Bool.{and_parts, and_from, cond-true}
 use Rattle.rules.specs.Rules.{Expr, Num, First, Second, Me, Add, Sub, Mul, Div, Rem, Lt, Eq}
 use Rattle.wire.specs.Exprs.{expr_fits, Kind, kind_after, join}
+use Rattle.wire.specs.Kinds.{kind_number}
+use Rattle.wire.specs.declared.kinds.ExprKind.{ExprKind}
+use Rattle.wire.specs.declared.kinds.ExprKind.TheVariants as kinds
 use Rattle.wire.proofs.Exprs.{exprs_fit}
 use Rattle.wire.proofs.ExprsKinds.{lawful}
 use Rattle.text.specs.Grammar.{Piece, word, number}
@@ -13,7 +16,7 @@ use Rattle.game_text.specs.declared.progress.Word.{Word}
 use Rattle.game_text.specs.declared.progress.Word.TheVariants.{Kind as TheKind}
 use Rattle.game_text.specs.declared.progress.Progress.{Progress}
 use Rattle.game_text.specs.Text.{expr_pieces}
-use Rattle.game_text.specs.Machine.{State, expr_words, spelling, kind_words, look, pending, part_ended, number_taken, word_taken, is_end}
+use Rattle.game_text.specs.Machine.{State, spelling, kind_words, look, pending, part_ended, number_taken, word_taken, is_end}
 use Rattle.game_text.proofs.Spelled.{found_cases, look_same}
 use Rattle.game_text.proofs.Runs.{run, run_none}
 use Rattle.game_text.proofs.Pieces.{clash}
@@ -28,6 +31,12 @@ pieces_append : (es fs : List Expr) → exprs_pieces (es ++ fs) ≡ exprs_pieces
 unfolding exprs_pieces
 pieces_append [] fs = refl
 pieces_append (e ∷ es) fs = ap (λ l. expr_pieces e ++ l) (pieces_append es fs) ∙ sym (append_assoc (expr_pieces e) (exprs_pieces es) (exprs_pieces fs))
+
+-- the words of expressions, by their kinds from 1 on
+abbrev expr_words : List (List ℕ)
+expr_words =
+    codes "cell" ∷ codes "first" ∷ codes "second" ∷ codes "me" ∷ codes "+" ∷ codes "-" ∷ codes "*" ∷ codes "/" ∷ codes "rest" ∷ codes "below" ∷ codes "same"
+    ∷ codes "if" ∷ []
 
 -- an expression is its word and its parts
 abbrev Spelled : ℕ → Kind → List Expr → Type 0
@@ -105,7 +114,7 @@ join_length k es n h = let d : length (drop (kind_after k).arity es) ≡ n = ome
 
 -- the words of expressions are found among them
 abbrev AKind : Word → Type 0
-AKind w = (k : ℕ) × (k < 12) × (w ≡ TheKind (suc k))
+AKind w = (k : ExprKind) × (1 ≤ kind_number k) × (w ≡ TheKind k)
 
 abbrev AllKinds : List Word → Type 0
 AllKinds [] = Unit {0}
@@ -116,25 +125,38 @@ found_kind [] l w a e = let z : ◌≡◌ {A = ℕ} 0 1 = cc in absurd (omega ar
 found_kind (v ∷ ws) l w a e = found_cases true v ws l w (AKind w) e (λ t s. subst AKind s a.0) (found_kind ws l w a.1)
 
 all_kinds : AllKinds kind_words
-all_kinds = (
-  (0, omega arith, refl),
-  (
-    (1, omega arith, refl),
-    (
-      (2, omega arith, refl),
-      (
-        (3, omega arith, refl),
-        (
-          (4, omega arith, refl),
-          (
-            (5, omega arith, refl),
-            ((6, omega arith, refl), ((7, omega arith, refl), ((8, omega arith, refl), ((9, omega arith, refl), ((10, omega arith, refl), ((11, omega arith, refl), tt)))))),
-          ),
-        ),
-      ),
-    ),
-  ),
-)
+all_kinds =
+    ((kinds.Cell, omega arith, refl), ((kinds.First, omega arith, refl), ((kinds.Second, omega arith, refl), ((kinds.Me, omega arith, refl), ((kinds.Add, omega arith, refl), ((kinds.Sub, omega arith, refl), ((kinds.Mul, omega arith, refl), ((kinds.Div, omega arith, refl), ((kinds.Rem, omega arith, refl), ((kinds.Lt, omega arith, refl), ((kinds.Eq, omega arith, refl), ((kinds.If, omega arith, refl), tt))))))))))))
+
+few_kinds : (k : ExprKind) → kind_number k ≤ 12
+few_kinds kinds.Num = omega arith
+few_kinds kinds.Cell = omega arith
+few_kinds kinds.First = omega arith
+few_kinds kinds.Second = omega arith
+few_kinds kinds.Me = omega arith
+few_kinds kinds.Add = omega arith
+few_kinds kinds.Sub = omega arith
+few_kinds kinds.Mul = omega arith
+few_kinds kinds.Div = omega arith
+few_kinds kinds.Rem = omega arith
+few_kinds kinds.Lt = omega arith
+few_kinds kinds.Eq = omega arith
+few_kinds kinds.If = omega arith
+
+kind_spelling : (k : ExprKind) → 1 ≤ kind_number k → spelling (TheKind k) ≡ get_or expr_words (kind_number k - 1) []
+kind_spelling kinds.Num h = absurd (omega arith)
+kind_spelling kinds.Cell h = refl
+kind_spelling kinds.First h = refl
+kind_spelling kinds.Second h = refl
+kind_spelling kinds.Me h = refl
+kind_spelling kinds.Add h = refl
+kind_spelling kinds.Sub h = refl
+kind_spelling kinds.Mul h = refl
+kind_spelling kinds.Div h = refl
+kind_spelling kinds.Rem h = refl
+kind_spelling kinds.Lt h = refl
+kind_spelling kinds.Eq h = refl
+kind_spelling kinds.If h = refl
 
 -- n expressions of a part t, after c cells, r rules and k effects were counted, and what follows them
 pub record ExprsThen (n : ℕ) (t : Part) (c r k : ℕ) (ps : List Piece) (s : State) : Type 0 where
@@ -219,12 +241,11 @@ exprs_taken (word w ∷ qs) t m c r k l a memory s e z =
     let f = first_taken p memory (word w) qs s e in
     let g = then_some (look true kind_words w) (λ v. Some (word_taken v p memory)) f.to f.took in
     let d = found_kind kind_words w g.0 all_kinds g.1 in
-    let j : ℕ = d.0 in
-    let one : suc j - 1 ≡ j = omega arith in
-    let spelled : w ≡ get_or expr_words j [] = look_same kind_words w g.0 g.1 ∙ ap spelling d.2 ∙ ap (λ i. get_or expr_words i []) one in
-    let to : pending (m + (kind_after j).arity) (in_expr t m c r k (l + 1) a) (set memory l (suc j)) ≡ f.to =
-    ap (λ i. pending (m + (kind_after i).arity) (in_expr t m c r k (l + 1) a) (set memory l (suc j))) (sym one) ∙ ap (λ v. word_taken v p memory) (sym d.2) ∙ same_some _ f.to g.2
+    let j : ℕ = kind_number d.0 - 1 in
+    let spelled : w ≡ get_or expr_words j [] = look_same kind_words w g.0 g.1 ∙ ap spelling d.2 ∙ kind_spelling d.0 d.1 in
+    let to : pending (m + (kind_after j).arity) (in_expr t m c r k (l + 1) a) (set memory l (kind_number d.0)) ≡ f.to =
+    ap (λ v. word_taken v p memory) (sym d.2) ∙ same_some _ f.to g.2
     in
     subst (λ x. ExprsThen (suc m) t c r k (word x ∷ qs) s) (sym spelled)
-    (kind_then j m t c r k qs s d.1
-    (pending_then (m + (kind_after j).arity) t m c r k (l + 1) a (set memory l (suc j)) qs s (λ n l a memory e. exprs_taken qs t n c r k l a memory s e z) (ap (λ x. run x qs) to ∙ f.on)))
+    (kind_then j m t c r k qs s (omega (arith, d.1, few_kinds d.0))
+    (pending_then (m + (kind_after j).arity) t m c r k (l + 1) a (set memory l (kind_number d.0)) qs s (λ n l a memory e. exprs_taken qs t n c r k l a memory s e z) (ap (λ x. run x qs) to ∙ f.on)))

@@ -1,34 +1,17 @@
 -- Bytes beside words: where they agree, and which word is found.
-use Rattle.std.proofs.Common.{◌≡◌, ℕ, ◌+◌, ◌<◌, ◌≤◌, Bool, true, false, not, ◌&&◌, ◌||◌, eqb, List, length, get_or, drop, sym, ap, ◌∙◌}
-use Rattle.std.proofs.lemmas.List.{drop_more, drop_all}
-use Rattle.std.proofs.lemmas.Bool.{and_left, eq-eqb, ne_eqb}
-use Rattle.game_text.specs.Machine.{is_front, agrees}
+use Rattle.std.proofs.Common.{◌≡◌, ℕ, Bool, true, false, not, ◌&&◌, ◌||◌, eqb, List, [], ◌∷◌, length, inl, inr, sym, refl, ap}
+use Rattle.std.specs.List.{find, starts_with}
+use Rattle.std.proofs.lemmas.Bool.{and_left, cases_Bool}
+use Rattle.game_text.specs.declared.progress.Word.{Word}
+use Rattle.game_text.specs.Machine.{is_front, agrees, look, spelling}
 
--- a letter more
-pub front_more :
-    (l w : List ℕ) (i : ℕ) → i < length l → i < length w → get_or l i 0 ≡ get_or w i 0
-    → is_front (drop i l) (drop i w) ≡ is_front (drop (i + 1) l) (drop (i + 1) w)
+-- a front, as the library tests it
+pub starts_front : (l w : List ℕ) → starts_with eqb w l ≡ is_front l w
 unfolding is_front
-front_more l w i hl hw e =
-    (λ j. is_front (drop_more l i 0 hl j) (drop_more w i 0 hw j))
-    ∙ ap (λ t. t && is_front (drop (i + 1) l) (drop (i + 1) w)) (eq-eqb (get_or l i 0) (get_or w i 0) e)
-
--- another letter
-pub front_other :
-    (l w : List ℕ) (i : ℕ) → i < length l → i < length w → (get_or l i 0 ≡ get_or w i 0 → ⊥) → is_front (drop i l) (drop i w) ≡ false
-unfolding is_front
-front_other l w i hl hw e =
-    (λ j. is_front (drop_more l i 0 hl j) (drop_more w i 0 hw j))
-    ∙ ap (λ t. t && is_front (drop (i + 1) l) (drop (i + 1) w)) (ne_eqb (get_or l i 0) (get_or w i 0) e)
-
--- no letter is left
-pub front_short : (l w : List ℕ) (i : ℕ) → i < length l → length w ≤ i → is_front (drop i l) (drop i w) ≡ false
-unfolding is_front
-front_short l w i hl hw = λ j. is_front (drop_more l i 0 hl j) (drop_all i w hw j)
-
-pub front_all : (l w : List ℕ) (i : ℕ) → length l ≤ i → is_front (drop i l) (drop i w) ≡ true
-unfolding is_front
-front_all l w i hl = ap (λ x. is_front x (drop i w)) (drop_all i l hl)
+starts_front [] [] = refl
+starts_front [] (c ∷ w) = refl
+starts_front (b ∷ l) [] = refl
+starts_front (b ∷ l) (c ∷ w) = ap (λ t. eqb b c && t) (starts_front l w)
 
 pub disagrees : (whole : Bool) (l w : List ℕ) → is_front l w ≡ false → false ≡ agrees whole l w
 unfolding agrees
@@ -37,3 +20,12 @@ disagrees whole l w e = sym (and_left (is_front l w) (not whole || eqb (length l
 pub agrees_by : (whole : Bool) (l w : List ℕ) → is_front l w ≡ true → (not whole || eqb (length l) (length w)) ≡ agrees whole l w
 unfolding agrees
 agrees_by whole l w e = ap (λ t. t && (not whole || eqb (length l) (length w))) (sym e)
+
+-- the first word that agrees, as the library finds it
+pub look_found : (whole : Bool) (ws : List Word) (l : List ℕ) → find (λ w. agrees whole l (spelling w)) ws ≡ look whole ws l
+look_found whole [] l = refl
+look_found whole (w ∷ ws) l =
+    elim (cases_Bool (agrees whole l (spelling w))) [
+      | inl e ↦ rw e refl
+      | inr e ↦ rw e (look_found whole ws l)
+    ]

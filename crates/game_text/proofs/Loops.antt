@@ -1,8 +1,36 @@
 -- The loop over a text's bytes: what is left to read gives the outcome.
-use Rattle.std.proofs.Common.{◌≡◌, ℕ, ◌+◌, ◌<◌, ◌≤◌, true, false, List, length, get_or, drop, Some, None, Ok, ap, ◌∙◌}
+use Rattle.std.proofs.Common.{◌≡◌, ℕ, ◌+◌, ◌<◌, ◌≤◌, true, false, List, length, get_or, drop, Some, None, Ok, Err, Option, Result, refl, ap, subst, ◌∙◌}
 use Rattle.std.proofs.lemmas.List.{drop_more, drop_all}
 use Rattle.std.proofs.lemmas.Bool.{cond-true, cond-false}
-use Rattle.game_text.specs.Machine.{State, Machine, step, settled, went_on, at_end, is_end, failed, reading}
+use Rattle.std.specs.Option.{ok_or}
+use Rattle.game_text.specs.declared.progress.Fault.{Fault}
+use Rattle.game_text.specs.declared.progress.Stage.{Stage}
+use Rattle.game_text.specs.declared.progress.Stage.TheVariants.{PlayersWord, PlayersNumber, CellsWord, Values, FirstBound, SecondBound, MayWord, Expr, Sets, GainWord, End}
+use Rattle.game_text.specs.Machine.{State, Machine, step, settled, went_on, at_end, is_end, failed, reading, read}
+use Rattle.game_text.specs.Room.{machine_of}
+use Rattle.game_text.specs.declared.progress.Reader.{Reader}
+
+-- what the code knows where a step has failed, and where not
+pub or_fault : {A : Type 0} (o : Option A) (e f : Fault) → ◌≡◌ {A = Result A Fault} (Err e) (ok_or o f) → (o ≡ None) × (e ≡ f)
+or_fault None e f h = (refl, cc)
+or_fault (Some x) e f h = cc
+
+pub or_went : {A : Type 0} (o : Option A) (y : A) (f : Fault) → ◌≡◌ {A = Result A Fault} (Ok y) (ok_or o f) → o ≡ Some y
+or_went None y f h = cc
+or_went (Some x) y f h = cc
+
+pub not_end : (s : Stage) → (s ≡ End → ⊥) → is_end s ≡ false
+not_end PlayersWord h = refl
+not_end PlayersNumber h = refl
+not_end CellsWord h = refl
+not_end Values h = refl
+not_end FirstBound h = refl
+not_end SecondBound h = refl
+not_end MayWord h = refl
+not_end Expr h = refl
+not_end Sets h = refl
+not_end GainWord h = refl
+not_end End h = absurd (h refl)
 
 -- a byte that fits
 pub went_step :
@@ -37,3 +65,9 @@ pub ended_early :
     (m : Machine) (text : List ℕ) (i : ℕ) (s : State) → length text ≤ i → settled m.lexer m.at m.memory ≡ Some s → is_end s.at.stage ≡ false
     → reading m (drop i text) i ≡ failed i s.at s.memory
 ended_early m text i s h e t = ended m text i h ∙ ap (λ x. at_end m x i) e ∙ cond-false (is_end s.at.stage) _ _ t
+
+-- where all bytes were read
+pub all_read :
+    (text : List ℕ) (m : Reader) (out entry : List ℕ) (i : ℕ) → i ≡ length text → reading (machine_of text i m out) (drop i text) i ≡ read text entry
+    → reading (machine_of text (length text) m out) (drop (length text) text) (length text) ≡ read text entry
+all_read text m out entry i e h = subst (λ j. reading (machine_of text j m out) (drop j text) j ≡ read text entry) e h

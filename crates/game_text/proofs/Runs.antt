@@ -5,6 +5,9 @@ use Rattle.std.proofs.lemmas.Bool.{and_parts, cond-true, ltb-true}
 use Rattle.rules.specs.Rules.{Expr, Num, Cell, First, Second, Me, Add, Sub, Mul, Div, Rem, Lt, Eq, If}
 use Rattle.wire.specs.Numbers.{number_bytes}
 use Rattle.wire.specs.Exprs.{expr_bytes, expr_fits, kind_after}
+use Rattle.wire.specs.Kinds.{kind_number}
+use Rattle.wire.specs.declared.kinds.ExprKind.{ExprKind}
+use Rattle.wire.specs.declared.kinds.ExprKind.TheVariants as kinds
 use Rattle.text.specs.Grammar.{Piece, word, number}
 use Rattle.game_text.specs.declared.progress.Part.{Part}
 use Rattle.game_text.specs.declared.progress.Part.TheVariants.{Guard, Effect, Terminal, Payoff}
@@ -72,11 +75,11 @@ filled_two d old n h =
 
 -- a word of an expression
 pub kind_run :
-    (t : Part) (m c r k : ℕ) (d : List ℕ) (a : ℕ) (old : List ℕ) (j : ℕ) (l : List ℕ) (ps : List Piece) → look true kind_words l ≡ Some (Kind j)
-    → run (awaiting t m c r k d a old) (word l ∷ ps) ≡ run (closing t (m + (kind_after (j - 1)).arity) c r k (d ++ (j ∷ [])) a old) ps
+    (t : Part) (m c r k : ℕ) (d : List ℕ) (a : ℕ) (old : List ℕ) (j : ExprKind) (l : List ℕ) (ps : List Piece) → look true kind_words l ≡ Some (Kind j)
+    → run (awaiting t m c r k d a old) (word l ∷ ps) ≡ run (closing t (m + (kind_after (kind_number j - 1)).arity) c r k (d ++ (kind_number j ∷ [])) a old) ps
 kind_run t m c r k d a old j l ps e =
     run_one _ _ (word l) ps (ap (λ x. and_then x (λ w. Some (word_taken w (in_part t m c r k d a) (filled d old)))) e)
-    ∙ ap (λ s. run s ps) (same_pending t (m + (kind_after (j - 1)).arity) m c r k (d ++ (j ∷ [])) (length d + 1) a _ old (sym (length-append d (j ∷ []))) (filled_more d old j))
+    ∙ ap (λ s. run s ps) (same_pending t (m + (kind_after (kind_number j - 1)).arity) m c r k (d ++ (kind_number j ∷ [])) (length d + 1) a _ old (sym (length-append d (kind_number j ∷ []))) (filled_more d old (kind_number j)))
 
 -- a number as an expression
 num_run :
@@ -102,51 +105,51 @@ to_come : (t : Part) (n m c r k : ℕ) (d : List ℕ) (a : ℕ) (old : List ℕ)
 to_come t n m c r k d a old ps e = ap (λ x. run (closing t x c r k d a old) ps) e
 
 two_run :
-    (j : ℕ) (l : List ℕ) (x y : Expr) → Runs x → Runs y → look true kind_words l ≡ Some (Kind j) → (kind_after (j - 1)).arity ≡ 2
+    (j : ExprKind) (l : List ℕ) (x y : Expr) → Runs x → Runs y → look true kind_words l ≡ Some (Kind j) → (kind_after (kind_number j - 1)).arity ≡ 2
     → (t : Part) (m c r k : ℕ) (d : List ℕ) (a : ℕ) (old : List ℕ) (ps : List Piece) → (expr_fits x && expr_fits y) ≡ true
     → run (awaiting t m c r k d a old) ((word l ∷ (expr_pieces x ++ expr_pieces y)) ++ ps)
-    ≡ run (closing t m c r k (d ++ (j ∷ (expr_bytes x ++ expr_bytes y))) a old) ps
+    ≡ run (closing t m c r k (d ++ (kind_number j ∷ (expr_bytes x ++ expr_bytes y))) a old) ps
 two_run j l x y rx ry e n t m c r k d a old ps h =
     let f = and_parts (expr_fits x) (expr_fits y) h in
-    let two : m + (kind_after (j - 1)).arity ≡ suc (suc m) = ap (λ b. m + b) n ∙ omega arith in
+    let two : m + (kind_after (kind_number j - 1)).arity ≡ suc (suc m) = ap (λ b. m + b) n ∙ omega arith in
     ap (λ qs. run (awaiting t m c r k d a old) (word l ∷ qs)) (append_assoc (expr_pieces x) (expr_pieces y) ps)
     ∙ kind_run t m c r k d a old j l (expr_pieces x ++ (expr_pieces y ++ ps)) e
-    ∙ to_come t _ (suc (suc m)) c r k (d ++ (j ∷ [])) a old _ two
-    ∙ rx t (suc m) c r k (d ++ (j ∷ [])) a old (expr_pieces y ++ ps) f.0
-    ∙ ry t m c r k ((d ++ (j ∷ [])) ++ expr_bytes x) a old ps f.1
+    ∙ to_come t _ (suc (suc m)) c r k (d ++ (kind_number j ∷ [])) a old _ two
+    ∙ rx t (suc m) c r k (d ++ (kind_number j ∷ [])) a old (expr_pieces y ++ ps) f.0
+    ∙ ry t m c r k ((d ++ (kind_number j ∷ [])) ++ expr_bytes x) a old ps f.1
     ∙ ap (λ b. run (closing t m c r k b a old) ps) (simp append_assoc)
 
 leaf_run :
-    (j : ℕ) (l : List ℕ) → look true kind_words l ≡ Some (Kind j) → (kind_after (j - 1)).arity ≡ 0
+    (j : ExprKind) (l : List ℕ) → look true kind_words l ≡ Some (Kind j) → (kind_after (kind_number j - 1)).arity ≡ 0
     → (t : Part) (m c r k : ℕ) (d : List ℕ) (a : ℕ) (old : List ℕ) (ps : List Piece)
-    → run (awaiting t m c r k d a old) (word l ∷ ps) ≡ run (closing t m c r k (d ++ (j ∷ [])) a old) ps
+    → run (awaiting t m c r k d a old) (word l ∷ ps) ≡ run (closing t m c r k (d ++ (kind_number j ∷ [])) a old) ps
 leaf_run j l e n t m c r k d a old ps =
-    kind_run t m c r k d a old j l ps e ∙ to_come t _ m c r k (d ++ (j ∷ [])) a old ps (ap (λ b. m + b) n ∙ omega arith)
+    kind_run t m c r k d a old j l ps e ∙ to_come t _ m c r k (d ++ (kind_number j ∷ [])) a old ps (ap (λ b. m + b) n ∙ omega arith)
 
 pub expr_run : (e : Expr) → Runs e
 unfolding expr_pieces expr_bytes expr_fits kind_after agrees is_front
 expr_run (Num n) t m c r k d a old ps h = num_run t m c r k d a old n ps h
 expr_run (Cell x) t m c r k d a old ps h =
-    kind_run t m c r k d a old 1 (codes "cell") (expr_pieces x ++ ps) refl
+    kind_run t m c r k d a old kinds.Cell (codes "cell") (expr_pieces x ++ ps) refl
     ∙ to_come t (m + 1) (suc m) c r k (d ++ (1 ∷ [])) a old _ (omega arith)
     ∙ expr_run x t m c r k (d ++ (1 ∷ [])) a old ps h
     ∙ ap (λ b. run (closing t m c r k b a old) ps) (append_assoc d (1 ∷ []) (expr_bytes x))
-expr_run First t m c r k d a old ps h = leaf_run 2 (codes "first") refl refl t m c r k d a old ps
-expr_run Second t m c r k d a old ps h = leaf_run 3 (codes "second") refl refl t m c r k d a old ps
-expr_run Me t m c r k d a old ps h = leaf_run 4 (codes "me") refl refl t m c r k d a old ps
-expr_run (Add x y) t m c r k d a old ps h = two_run 5 (codes "+") x y (expr_run x) (expr_run y) refl refl t m c r k d a old ps h
-expr_run (Sub x y) t m c r k d a old ps h = two_run 6 (codes "-") x y (expr_run x) (expr_run y) refl refl t m c r k d a old ps h
-expr_run (Mul x y) t m c r k d a old ps h = two_run 7 (codes "*") x y (expr_run x) (expr_run y) refl refl t m c r k d a old ps h
-expr_run (Div x y) t m c r k d a old ps h = two_run 8 (codes "/") x y (expr_run x) (expr_run y) refl refl t m c r k d a old ps h
-expr_run (Rem x y) t m c r k d a old ps h = two_run 9 (codes "rest") x y (expr_run x) (expr_run y) refl refl t m c r k d a old ps h
-expr_run (Lt x y) t m c r k d a old ps h = two_run 10 (codes "below") x y (expr_run x) (expr_run y) refl refl t m c r k d a old ps h
-expr_run (Eq x y) t m c r k d a old ps h = two_run 11 (codes "same") x y (expr_run x) (expr_run y) refl refl t m c r k d a old ps h
+expr_run First t m c r k d a old ps h = leaf_run kinds.First (codes "first") refl refl t m c r k d a old ps
+expr_run Second t m c r k d a old ps h = leaf_run kinds.Second (codes "second") refl refl t m c r k d a old ps
+expr_run Me t m c r k d a old ps h = leaf_run kinds.Me (codes "me") refl refl t m c r k d a old ps
+expr_run (Add x y) t m c r k d a old ps h = two_run kinds.Add (codes "+") x y (expr_run x) (expr_run y) refl refl t m c r k d a old ps h
+expr_run (Sub x y) t m c r k d a old ps h = two_run kinds.Sub (codes "-") x y (expr_run x) (expr_run y) refl refl t m c r k d a old ps h
+expr_run (Mul x y) t m c r k d a old ps h = two_run kinds.Mul (codes "*") x y (expr_run x) (expr_run y) refl refl t m c r k d a old ps h
+expr_run (Div x y) t m c r k d a old ps h = two_run kinds.Div (codes "/") x y (expr_run x) (expr_run y) refl refl t m c r k d a old ps h
+expr_run (Rem x y) t m c r k d a old ps h = two_run kinds.Rem (codes "rest") x y (expr_run x) (expr_run y) refl refl t m c r k d a old ps h
+expr_run (Lt x y) t m c r k d a old ps h = two_run kinds.Lt (codes "below") x y (expr_run x) (expr_run y) refl refl t m c r k d a old ps h
+expr_run (Eq x y) t m c r k d a old ps h = two_run kinds.Eq (codes "same") x y (expr_run x) (expr_run y) refl refl t m c r k d a old ps h
 expr_run (If x y z) t m c r k d a old ps h =
     let e = and_parts (expr_fits x) (expr_fits y && expr_fits z) h in
     let f = and_parts (expr_fits y) (expr_fits z) e.1 in
     let flat : (expr_pieces x ++ (expr_pieces y ++ expr_pieces z)) ++ ps ≡ expr_pieces x ++ (expr_pieces y ++ (expr_pieces z ++ ps)) = simp append_assoc in
     ap (λ qs. run (awaiting t m c r k d a old) (word (codes "if") ∷ qs)) flat
-    ∙ kind_run t m c r k d a old 12 (codes "if") (expr_pieces x ++ (expr_pieces y ++ (expr_pieces z ++ ps))) refl
+    ∙ kind_run t m c r k d a old kinds.If (codes "if") (expr_pieces x ++ (expr_pieces y ++ (expr_pieces z ++ ps))) refl
     ∙ to_come t (m + 3) (suc (suc (suc m))) c r k (d ++ (12 ∷ [])) a old _ (omega arith)
     ∙ expr_run x t (suc (suc m)) c r k (d ++ (12 ∷ [])) a old _ e.0
     ∙ expr_run y t (suc m) c r k ((d ++ (12 ∷ [])) ++ expr_bytes x) a old _ f.0

@@ -38,26 +38,26 @@ all_fine FirstBound p = tt
 all_fine SecondBound p = tt
 all_fine MayWord p = (tt, tt)
 all_fine Expr p = (
-  (omega arith, omega arith),
+  omega arith,
   (
-    (omega arith, omega arith),
+    omega arith,
     (
-      (omega arith, omega arith),
+      omega arith,
       (
-        (omega arith, omega arith),
+        omega arith,
         (
-          (omega arith, omega arith),
+          omega arith,
           (
-            (omega arith, omega arith),
+            omega arith,
             (
-              (omega arith, omega arith),
+              omega arith,
               (
-                (omega arith, omega arith),
+                omega arith,
                 (
-                  (omega arith, omega arith),
+                  omega arith,
                   (
-                    (omega arith, omega arith),
-                    ((omega arith, omega arith), ((omega arith, omega arith), tt)),
+                    omega arith,
+                    (omega arith, (omega arith, tt)),
                   ),
                 ),
               ),
@@ -84,7 +84,7 @@ pub digits_settled :
 digits_settled text i t p n memory s e sane h =
     let d = subst (λ x. Sane i p x) e sane in (
       ap (λ x. settled (lexer_of text i x) p memory) e ∙ ap (λ x. Some x) (sym h),
-      subst (λ (x : State). Room x.at (i + 1)) (sym h) (room_after i p _ d.0 d.1 (number_grew p.stage n p memory refl d.2 d.0.cells)),
+      subst (λ (x : State). Room x.at (i + 1)) (sym h) (room_after i p _ d.0 d.1 (number_grew p.stage n p memory refl d.2)),
     )
 
 pub letters_settled :
@@ -95,7 +95,7 @@ letters_settled text i t p from memory w s e sane f h =
     let d = subst (λ x. Sane i p x) e sane in (
       ap (λ x. settled (lexer_of text i x) p memory) e ∙ ap (λ x. and_then x (λ v. Some (word_taken v p memory))) (sym f) ∙ ap (λ x. Some x) (sym h),
       subst (λ (x : State). Room x.at (i + 1)) (sym h)
-          (room_after i p _ d.0 (omega (arith, d.1)) (word_grew w p memory (look_fine true p _ w f) d.0.cells)),
+          (room_after i p _ d.0 (omega (arith, d.1)) (word_grew w p memory (look_fine true p _ w f))),
     )
 
 -- one more letter

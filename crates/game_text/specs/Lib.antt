@@ -4,3 +4,4 @@ pub mod Machine
 pub mod Room
 pub mod Theorems
 pub mod Positions
+pub mod Expecting

@@ -1,7 +1,9 @@
 -- How a game's text is read, byte by byte, as a machine. What it answers is said in Theorems, apart from it: only what could have come
 -- where a text can't be read on, `expected_at`, is as the machine says.
-use Rattle.std.specs.Prelude.{ℕ, zero, suc, ◌+◌, ◌-◌, ◌*◌, ◌/◌, ◌%◌, Bool, true, false, cond, not, ◌&&◌, ◌||◌, List, [], ◌∷◌, ◌++◌, length, take, Some, None, Ok, Err, codes, Option, Result, ◌==◌, nat_lt, slice_index_or, slice_set}
+use Rattle.std.specs.Prelude.{ℕ, zero, suc, ◌+◌, ◌-◌, ◌*◌, ◌/◌, ◌%◌, Bool, true, false, cond, not, ◌&&◌, ◌||◌, List, [], ◌∷◌, ◌++◌, length, take, Some, None, Ok, Err, codes, Option, Result, ◌==◌, nat_lt, slice_set}
 use Rattle.wire.specs.Exprs.{kind_after}
+use Rattle.wire.specs.Kinds.{kind_number}
+use Rattle.wire.specs.declared.kinds.ExprKind.TheVariants.{Num, Cell, First, Second, Me, Add, Sub, Mul, Div, Rem, Lt, Eq, If}
 use Rattle.text.specs.Grammar.{digit}
 use Rattle.game_text.specs.declared.progress.Part.{Part}
 use Rattle.game_text.specs.declared.progress.Part.TheVariants.{Guard, Effect, Terminal, Payoff}
@@ -15,12 +17,7 @@ use Rattle.game_text.specs.declared.progress.Expected.TheVariants.{ThePlayers, P
 use Rattle.game_text.specs.declared.progress.Fault.{Fault}
 use Rattle.game_text.specs.Text.{white}
 
--- the words of expressions, by their kinds from 1 on
-abbrev pub expr_words : List (List ℕ)
-expr_words =
-    codes "cell" ∷ codes "first" ∷ codes "second" ∷ codes "me" ∷ codes "+" ∷ codes "-" ∷ codes "*" ∷ codes "/" ∷ codes "rest" ∷ codes "below" ∷ codes "same"
-    ∷ codes "if" ∷ []
-
+-- how the words are written. A number is no word
 abbrev pub spelling : Word → List ℕ
 spelling Players = codes "players"
 spelling Cells = codes "cells"
@@ -29,10 +26,23 @@ spelling May = codes "may"
 spelling Set = codes "set"
 spelling Over = codes "over"
 spelling Gain = codes "gain"
-spelling (Kind k) = slice_index_or expr_words (k - 1) []
+spelling (Kind Num) = []
+spelling (Kind Cell) = codes "cell"
+spelling (Kind First) = codes "first"
+spelling (Kind Second) = codes "second"
+spelling (Kind Me) = codes "me"
+spelling (Kind Add) = codes "+"
+spelling (Kind Sub) = codes "-"
+spelling (Kind Mul) = codes "*"
+spelling (Kind Div) = codes "/"
+spelling (Kind Rem) = codes "rest"
+spelling (Kind Lt) = codes "below"
+spelling (Kind Eq) = codes "same"
+spelling (Kind If) = codes "if"
 
 abbrev pub kind_words : List Word
-kind_words = Kind 1 ∷ Kind 2 ∷ Kind 3 ∷ Kind 4 ∷ Kind 5 ∷ Kind 6 ∷ Kind 7 ∷ Kind 8 ∷ Kind 9 ∷ Kind 10 ∷ Kind 11 ∷ Kind 12 ∷ []
+kind_words =
+    Kind Cell ∷ Kind First ∷ Kind Second ∷ Kind Me ∷ Kind Add ∷ Kind Sub ∷ Kind Mul ∷ Kind Div ∷ Kind Rem ∷ Kind Lt ∷ Kind Eq ∷ Kind If ∷ []
 
 -- the words that may come next: no 256th rule, no 256th effect
 abbrev pub awaited : Stage → Progress → List Word
@@ -156,7 +166,8 @@ word_taken Set p memory = record {
 word_taken Over p memory =
     cond (p.rules == 0) (record { at = rules_left (p.len + 1) p; memory = slice_set memory p.len 0 }) (record { at = rules_left p.len p; memory = memory })
 word_taken Gain p memory = record { at = part_begun Payoff 0 p; memory = memory }
-word_taken (Kind k) p memory = pending (p.more + (kind_after (k - 1)).arity) (staged Expr (p.len + 1) p) (slice_set memory p.len k)
+word_taken (Kind k) p memory =
+    pending (p.more + (kind_after (kind_number k - 1)).arity) (staged Expr (p.len + 1) p) (slice_set memory p.len (kind_number k))
 
 -- what a byte belongs to: white space, a comment, a number of which the digits so far come to this, or a word with these letters so far
 pub data Lexer : Type 0 where

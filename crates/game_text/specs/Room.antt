@@ -1,5 +1,6 @@
 -- What holds of reading at every byte, so that no number in the code is too large. No reader has to believe these: the contract of the whole does not name them.
 use Rattle.std.specs.Prelude.{◌≡◌, ℕ, ◌+◌, ◌-◌, ◌*◌, ◌<◌, ◌≤◌, List, take, drop, Some, None, Option}
+use Rattle.wire.specs.Kinds.{kind_number}
 use Rattle.game_text.specs.declared.progress.Stage.{Stage}
 use Rattle.game_text.specs.declared.progress.Stage.TheVariants.{PlayersWord, PlayersNumber, CellsWord, Values, FirstBound, SecondBound, MayWord, Expr, Sets, GainWord, End}
 use Rattle.game_text.specs.declared.progress.Word.{Word}
@@ -19,7 +20,7 @@ Fine May p = Unit {0}
 Fine Set p = p.sets < 255
 Fine Over p = Unit {0}
 Fine Gain p = Unit {0}
-Fine (Kind k) p = (1 ≤ k) × (k ≤ 12)
+Fine (Kind k) p = 1 ≤ kind_number k
 
 -- how many bytes may be written for the piece that comes next, beyond the four that any piece has at most
 abbrev pub slack : Stage → ℕ
@@ -39,13 +40,11 @@ slack End = 2
 pub record Room (p : Progress) (n : ℕ) : Type 0 where
   pub bytes : p.len + slack p.stage ≤ 2 * n
   pub few : p.more ≤ n
-  pub cells : p.cells ≤ 65535
 
 -- a piece was taken
 pub record Grew (p q : Progress) : Type 0 where
   pub bytes : q.len + slack q.stage ≤ p.len + slack p.stage + 4
   pub few : q.more ≤ p.more + 2
-  pub cells : q.cells ≤ 65535
 
 abbrev pub Roomy : Option Progress → ℕ → Type 0
 Roomy None n = Unit {0}

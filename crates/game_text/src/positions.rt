@@ -6,17 +6,8 @@ ghost use Rattle.game_text.specs.Positions.{position};
 pub fn line_and_column(text: &[u8], place: usize) -> (usize, usize)
     ensures { result ≡ position text.now place }
 {
-    let mut line: usize = 1;
-    let mut column: usize = 1;
-    let mut i: usize = 0;
-    while i < text.len() && i < place {
-        if text[i] == b'\n' {
-            line += 1;
-            column = 1;
-        } else {
-            column += 1;
-        }
-        i += 1;
-    }
+    let before = text.get(..place).unwrap_or(text);
+    let line = 1 + before.iter().filter(|b| **b == b'\n').count();
+    let column = 1 + before.iter().rev().take_while(|b| **b != b'\n').count();
     (line, column)
 }

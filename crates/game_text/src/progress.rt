@@ -1,5 +1,11 @@
 // What reading a game's text remembers. How it goes on, byte by byte, stands in specs/Machine.
 
+ghost use Rattle.std.specs.Prelude.{Some};
+ghost use Rattle.game_text.specs.Expecting.{told};
+
+use std::fmt;
+use wire::ExprKind;
+
 // The four places of a game where expressions stand.
 #[derive(Clone, Copy)]
 pub enum Part {
@@ -25,7 +31,7 @@ pub enum Stage {
     End,
 }
 
-// The words of a game's text; those of expressions by their kinds, from 1 on.
+// The words of a game's text; those of expressions by their kinds.
 #[derive(Clone, Copy)]
 pub enum Word {
     Players,
@@ -35,7 +41,7 @@ pub enum Word {
     Set,
     Over,
     Gain,
-    Kind(u8),
+    Kind(ExprKind),
 }
 
 // How far reading has come. `part` and `more` count while an expression is awaited: `more` expressions of the part follow it.
@@ -45,9 +51,9 @@ pub struct Progress {
     pub stage: Stage,
     pub part: Part,
     pub more: usize,
-    pub cells: usize,
-    pub rules: usize,
-    pub sets: usize,
+    pub cells: u16,
+    pub rules: u8,
+    pub sets: u8,
     pub len: usize,
     pub sets_at: usize,
 }
@@ -70,6 +76,30 @@ pub enum Expected {
     TheEnd,
 }
 
+// In words, for messages.
+impl fmt::Display for Expected {
+    ghost output = { λ e. Some (told e) };
+
+    fn fmt<W: fmt::Write>(&self, f: &mut fmt::Formatter<W>) -> fmt::Result {
+        f.write_str(match self {
+            Expected::ThePlayers => "the word 'players'",
+            Expected::PlayerCount => "the number of players, at most 255,",
+            Expected::TheCells => "the word 'cells'",
+            Expected::CellRuleOrOver =>
+                "the next cell's number, at most 65535, or 'rule' or 'over'",
+            Expected::RuleOrOver => "'rule' or 'over'",
+            Expected::Number => "a number, at most 65535,",
+            Expected::TheMay => "the word 'may'",
+            Expected::AnExpression => "an expression",
+            Expected::SetRuleOrOver => "'set', 'rule' or 'over'",
+            Expected::SetOrOver => "'set' or 'over'",
+            Expected::TheOver => "the word 'over'",
+            Expected::TheGain => "the word 'gain'",
+            Expected::TheEnd => "the end of the game",
+        })
+    }
+}
+
 // Where a text can't be read on: the first byte that doesn't fit, or the text's end, and what could have come.
 #[derive(Clone, Copy, PartialEq, Eq, Debug)]
 pub struct Fault {
@@ -82,7 +112,7 @@ pub struct Fault {
 pub enum Token {
     Gap,
     Comment,
-    Digits(usize),
+    Digits(u16),
     Letters(usize),
 }
 
@@ -91,3 +121,18 @@ pub struct Reader {
     pub at: Progress,
     pub token: Token,
 }
+
+// Before any byte.
+pub const START: Reader = Reader {
+    at: Progress {
+        stage: Stage::PlayersWord,
+        part: Part::Guard,
+        more: 0,
+        cells: 0,
+        rules: 0,
+        sets: 0,
+        len: 0,
+        sets_at: 0,
+    },
+    token: Token::Gap,
+};

@@ -1,8 +1,7 @@
 // A step of reading: what one byte does.
 ghost use Rattle.std.specs.Prelude.{◌≡◌, ℕ, ◌+◌, ◌-◌, ◌<◌, ◌≤◌, List, length, slice_index, slice_range};
-ghost use Rattle.text.specs.Grammar.{digit};
 ghost use Rattle.game_text.specs.Text.{white};
-ghost use Rattle.game_text.specs.Machine.{settled, more_digits, more_letters, added, in_comment, step, is_end};
+ghost use Rattle.game_text.specs.Machine.{settled, more_digits, more_letters, added, step};
 ghost use Rattle.game_text.specs.Room.{Room, Roomy, Sane, lexer_of, machine_of, SameState, SameDigits, SameLexer, SameMachine};
 
 use super::progress::{Progress, Reader, Stage, Token};
@@ -12,13 +11,7 @@ use super::words::{bound_of, find_word};
 fn is_white(b: u8) -> bool
     ensures { result ≡ white b }
 {
-    (b == b' ' || b == b'\t') || (b == b'\n' || b == b'\r')
-}
-
-fn is_digit(b: u8) -> bool
-    ensures { result ≡ digit b }
-{
-    b'0' <= b && b <= b'9'
+    matches!(b, b' ' | b'\t' | b'\n' | b'\r')
 }
 
 // If the bytes before place i are all: the number or the word that ends there is taken.
@@ -34,27 +27,26 @@ pub(super) fn settle(
     ensures room { Roomy result (i + 1) }
 {
     match token {
-        Token::Gap => Some(p),
-        Token::Comment => Some(p),
+        Token::Gap | Token::Comment => Some(p),
         Token::Digits(n) => Some(take_number(n, p, out)),
-        Token::Letters(from) => match find_word(p, &text[from..i], true) {
-            Some(w) => Some(take_word(w, p, out)),
-            None => None,
-        },
+        Token::Letters(from) => {
+            let w = find_word(p, &text[from..i], true)?;
+            Some(take_word(w, p, out))
+        }
     }
 }
 
 // One more digit, if the number stays small enough.
-fn add_digit(n: usize, b: u8, i: usize, p: Progress) -> Option<Token>
-    requires { (n < 65536) × (Room p i) }
+fn add_digit(n: u16, b: u8, i: usize, p: Progress) -> Option<Token>
+    requires { Room p i }
     ensures { SameDigits (more_digits n b p) (i + 1) p result }
 {
-    if !is_digit(b) {
+    if !b.is_ascii_digit() {
         return None;
     }
-    let more = n * 10 + (b - b'0') as usize;
+    let more = usize::from(n) * 10 + usize::from(b - b'0');
     if more < bound_of(p) {
-        Some(Token::Digits(more))
+        Some(Token::Digits(more as u16))
     } else {
         None
     }
@@ -65,10 +57,8 @@ fn add_letter(text: &[u8], from: usize, i: usize, p: Progress) -> Option<Token>
     requires { (i < length text.now) × ((from ≤ i) × (Room p i)) }
     ensures { SameLexer (more_letters (slice_range text.now from i) (slice_index text.now i) p) text.now (i + 1) p result }
 {
-    match find_word(p, &text[from..i + 1], false) {
-        Some(_w) => Some(Token::Letters(from)),
-        None => None,
-    }
+    find_word(p, &text[from..=i], false)?;
+    Some(Token::Letters(from))
 }
 
 // What a byte that ends nothing adds to.
@@ -77,25 +67,11 @@ fn add(text: &[u8], i: usize, token: Token, p: Progress) -> Option<Token>
     ensures { SameLexer (added (lexer_of text.now i token) (slice_index text.now i) p) text.now (i + 1) p result }
 {
     match token {
-        Token::Gap => if is_digit(text[i]) {
-            add_digit(0, text[i], i, p)
-        } else {
-            add_letter(text, i, i, p)
-        },
+        Token::Gap if text[i].is_ascii_digit() => add_digit(0, text[i], i, p),
+        Token::Gap => add_letter(text, i, i, p),
         Token::Comment => Some(Token::Comment),
         Token::Digits(n) => add_digit(n, text[i], i, p),
         Token::Letters(from) => add_letter(text, from, i, p),
-    }
-}
-
-fn in_comment(token: Token) -> bool
-    ensures { (text : List ℕ) (i : ℕ) → result ≡ in_comment (lexer_of text i token) }
-{
-    match token {
-        Token::Gap => false,
-        Token::Comment => true,
-        Token::Digits(_n) => false,
-        Token::Letters(_from) => false,
     }
 }
 
@@ -105,7 +81,7 @@ pub(super) fn advance(text: &[u8], i: usize, m: Reader, out: &mut [u8]) -> Optio
     ensures { SameMachine (step (machine_of text.now i m out.old) (slice_index text.now i)) text.now (i + 1) result out.old out.new }
 {
     let b = text[i];
-    if in_comment(m.token) {
+    if matches!(m.token, Token::Comment) {
         let token = if b == b'\n' {
             Token::Gap
         } else {
@@ -119,13 +95,9 @@ pub(super) fn advance(text: &[u8], i: usize, m: Reader, out: &mut [u8]) -> Optio
         } else {
             Token::Gap
         };
-        let Some(at) = settle(text, i, m.token, m.at, out) else {
-            return None;
-        };
+        let at = settle(text, i, m.token, m.at, out)?;
         return Some(Reader { at, token });
     }
-    let Some(token) = add(text, i, m.token, m.at) else {
-        return None;
-    };
+    let token = add(text, i, m.token, m.at)?;
     Some(Reader { at: m.at, token })
 }

@@ -1,20 +1,20 @@
 // What a number or a word, once read, adds to the bytes of the game.
-ghost use Rattle.std.specs.Prelude.{◌≡◌, ◌+◌, ◌^◌, ◌<◌, ◌≤◌};
+ghost use Rattle.std.specs.Prelude.{◌≡◌, ◌+◌, ◌^◌, ◌<◌};
 ghost use Rattle.game_text.specs.Machine.{State, state_of, staged, put_two, part_ended, pending, number_taken, word_taken, bound};
 ghost use Rattle.game_text.specs.Room.{Fine, slack};
 ghost use Rattle.game_text.specs.declared.progress.Word.TheVariants.{Rule, Over, Set};
 
 use super::progress::{Part, Progress, Stage, Word};
-use super::put_byte;
-use wire::arity_of;
+use wire::put;
 
 // A number of two bytes.
-fn put_two(out: &mut [u8], at: usize, n: usize)
-    requires { (n < 65536) × (at + 1 < 2 ^ 64) }
+fn put_two(out: &mut [u8], at: usize, n: u16)
+    requires { at + 1 < 2 ^ 64 }
     ensures { out.new ≡ put_two out.old at n }
 {
-    put_byte(out, at, (n % 256) as u8);
-    put_byte(out, at + 1, (n / 256) as u8);
+    let [low, high] = n.to_le_bytes();
+    put(out, at, low);
+    put(out, at + 1, high);
 }
 
 // All of a part was read.
@@ -29,7 +29,7 @@ fn end_part(p: Progress, out: &mut [u8]) -> Progress
     };
     match p.part {
         Part::Guard => {
-            put_byte(out, p.len, 0);
+            put(out, p.len, 0);
             Progress {
                 stage: Stage::Sets,
                 sets: 0,
@@ -69,8 +69,8 @@ fn await_more(count: usize, p: Progress, out: &mut [u8]) -> Progress
 }
 
 // A bound of a rule, and what is awaited after it.
-fn take_bound(n: usize, then: Stage, p: Progress, out: &mut [u8]) -> Progress
-    requires { (n < 65536) × (p.len + 2 < 2 ^ 64) }
+fn take_bound(n: u16, then: Stage, p: Progress, out: &mut [u8]) -> Progress
+    requires { p.len + 2 < 2 ^ 64 }
     ensures { record { at = result; memory = out.new } ≡ state_of (staged «then» (p.len + 2) p) (put_two out.old p.len n) }
 {
     put_two(out, p.len, n);
@@ -82,13 +82,13 @@ fn take_bound(n: usize, then: Stage, p: Progress, out: &mut [u8]) -> Progress
 }
 
 // A number that may come next.
-pub(super) fn take_number(n: usize, p: Progress, out: &mut [u8]) -> Progress
-    requires { (n < bound p.stage p) × ((p.len + slack p.stage + 2 < 2 ^ 64) × (p.cells ≤ 65535)) }
+pub(super) fn take_number(n: u16, p: Progress, out: &mut [u8]) -> Progress
+    requires { (n < bound p.stage p) × (p.len + slack p.stage + 2 < 2 ^ 64) }
     ensures { record { at = result; memory = out.new } ≡ number_taken p.stage n p out.old }
 {
     match p.stage {
         Stage::PlayersNumber => {
-            put_byte(out, p.len, n as u8);
+            put(out, p.len, n as u8);
             Progress {
                 stage: Stage::CellsWord,
                 len: p.len + 1,
@@ -107,7 +107,7 @@ pub(super) fn take_number(n: usize, p: Progress, out: &mut [u8]) -> Progress
         Stage::FirstBound => take_bound(n, Stage::SecondBound, p, out),
         Stage::SecondBound => take_bound(n, Stage::MayWord, p, out),
         Stage::Expr => {
-            put_byte(out, p.len, 0);
+            put(out, p.len, 0);
             put_two(out, p.len + 1, n);
             await_more(
                 p.more,
@@ -118,21 +118,16 @@ pub(super) fn take_number(n: usize, p: Progress, out: &mut [u8]) -> Progress
                 out,
             )
         }
-        Stage::PlayersWord => p,
-        Stage::CellsWord => p,
-        Stage::MayWord => p,
-        Stage::Sets => p,
-        Stage::GainWord => p,
-        Stage::End => p,
+        _ => p,
     }
 }
 
 // A rule begins: one more is counted, behind the cells.
 fn begin_rule(p: Progress, out: &mut [u8]) -> Progress
-    requires { (p.rules < 255) × ((p.len + 2 < 2 ^ 64) × (p.cells ≤ 65535)) }
+    requires { (p.rules < 255) × (p.len + 2 < 2 ^ 64) }
     ensures { record { at = result; memory = out.new } ≡ word_taken Rule p out.old }
 {
-    put_byte(out, 3 + 2 * p.cells, (p.rules + 1) as u8);
+    put(out, 3 + 2 * usize::from(p.cells), p.rules + 1);
     let len = if p.rules == 0 { p.len + 1 } else { p.len };
     Progress {
         stage: Stage::FirstBound,
@@ -156,7 +151,7 @@ fn end_rules(p: Progress, out: &mut [u8]) -> Progress
         ..p
     };
     if p.rules == 0 {
-        put_byte(out, p.len, 0);
+        put(out, p.len, 0);
         return Progress {
             len: p.len + 1,
             ..next
@@ -170,7 +165,7 @@ fn begin_effect(p: Progress, out: &mut [u8]) -> Progress
     requires { p.sets < 255 }
     ensures { record { at = result; memory = out.new } ≡ word_taken Set p out.old }
 {
-    put_byte(out, p.sets_at, (p.sets + 1) as u8);
+    put(out, p.sets_at, p.sets + 1);
     Progress {
         stage: Stage::Expr,
         part: Part::Effect,
@@ -182,7 +177,7 @@ fn begin_effect(p: Progress, out: &mut [u8]) -> Progress
 
 // A word that may come next.
 pub(super) fn take_word(w: Word, p: Progress, out: &mut [u8]) -> Progress
-    requires { (Fine w p) × ((p.len + 2 < 2 ^ 64) × ((p.cells ≤ 65535) × (p.more + 3 < 2 ^ 64))) }
+    requires { (Fine w p) × ((p.len + 2 < 2 ^ 64) × (p.more + 3 < 2 ^ 64)) }
     ensures { record { at = result; memory = out.new } ≡ word_taken w p out.old }
 {
     match w {
@@ -213,14 +208,14 @@ pub(super) fn take_word(w: Word, p: Progress, out: &mut [u8]) -> Progress
             more: 0,
             ..p
         },
-        Word::Kind(k) => {
-            put_byte(out, p.len, k);
+        Word::Kind(kind) => {
+            put(out, p.len, u8::from(kind));
             let next = Progress {
                 stage: Stage::Expr,
                 len: p.len + 1,
                 ..p
             };
-            await_more(p.more + arity_of(k), next, out)
+            await_more(p.more + kind.arity(), next, out)
         }
     }
 }

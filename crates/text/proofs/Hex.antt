@@ -1,24 +1,16 @@
 -- Hexadecimal digits, and what a byte is after what was read so far.
-use Rattle.std.proofs.Common.{◌≡◌, ℕ, ◌+◌, ◌-◌, ◌≤◌, true, Some, None, sym, ap, ◌∙◌, arith}
+use Rattle.std.proofs.Common.{◌≡◌, ℕ, ◌<◌, true, Option, Some, None, sym, ◌∙◌, arith}
 use Rattle.std.proofs.lemmas.Bool.Decides.{nat_tests}
+use Rattle.std.specs.Char.{digit_value}
+use Rattle.std.specs.Option.{SomeIff}
 use Rattle.text.specs.Grammar.{blank}
 use Rattle.text.specs.Raw.{hex_value}
 
-pub hex_decimal : (b : ℕ) → 48 ≤ b → b ≤ 57 → Some (b - 48) ≡ hex_value b
+-- as the library reads them
+pub hex_of : (b : ℕ) (r : Option ℕ) → SomeIff r (digit_value b < 16) (digit_value b) → r ≡ hex_value b
 unfolding hex_value
-hex_decimal b l u = grind (arith, nat_tests)
-
-pub hex_lower : (b : ℕ) → 97 ≤ b → b ≤ 102 → Some (b - 97 + 10) ≡ hex_value b
-unfolding hex_value
-hex_lower b l u = let e : b - 97 + 10 ≡ b - 87 = omega arith in ap Some e ∙ grind (arith, nat_tests)
-
-pub hex_upper : (b : ℕ) → 65 ≤ b → b ≤ 70 → Some (b - 65 + 10) ≡ hex_value b
-unfolding hex_value
-hex_upper b l u = let e : b - 65 + 10 ≡ b - 55 = omega arith in ap Some e ∙ grind (arith, nat_tests)
-
-pub hex_none : (b : ℕ) → (48 ≤ b → b ≤ 57 → ⊥) → (97 ≤ b → b ≤ 102 → ⊥) → (65 ≤ b → b ≤ 70 → ⊥) → None ≡ hex_value b
-unfolding hex_value
-hex_none b d l u = grind (arith, nat_tests)
+hex_of b None h = grind (arith, nat_tests)
+hex_of b (Some d) h = grind (arith, nat_tests)
 
 -- white space is no digit
 pub blank_not_hex : (b : ℕ) → blank b ≡ true → hex_value b ≡ None

@@ -6,7 +6,7 @@ use Rattle.text.specs.Raw.{hex_value, Pairs, end, pair}
 use Rattle.text.specs.RawReader.{step_of, by_digit, after, pushed, pairs_at}
 use Rattle.text.specs.declared.raw.Awaits.{Awaits}
 use Rattle.text.specs.declared.raw.Awaits.TheVariants.{Gap, Digit, Second}
-use Rattle.text.specs.declared.raw.Step.TheVariants.{Blank, First, Pair, Wrong}
+use Rattle.text.specs.declared.raw.Step.TheVariants.{Blank, First, Pair}
 use Rattle.text.proofs.Splits.{starts, none_alike}
 use Rattle.text.proofs.Pieces.{blank_not_digit}
 use Rattle.text.proofs.Hex.{not_both}
@@ -163,13 +163,13 @@ module _ (b : ℕ) (bs : List ℕ) (i : ℕ) (good : (a : Awaits) → Good (Said
   gap_good : Good (Said Gap) (b ∷ bs) i (after (step_of Gap b) left i)
   unfolding step_of
   gap_good =
-      cond_both (blank b) Blank Wrong (λ s. Good (Said Gap) (b ∷ bs) i (after s left i)) (λ e. blank_good 1 (omega arith) e)
+      cond_both (blank b) (Some Blank) None (λ s. Good (Said Gap) (b ∷ bs) i (after s left i)) (λ e. blank_good 1 (omega arith) e)
       (λ e. stop_at Gap b bs i (λ cs xs t. ⊎_elim (λ p. both_ways (blank b) e p.0) (λ p. omega (arith, p.0)) (begins t b xs refl)))
 
   digit_good : Good (Said Digit) (b ∷ bs) i (after (step_of Digit b) left i)
   unfolding step_of
   digit_good =
-      cond_both (blank b) Blank (by_digit (hex_value b) First) (λ s. Good (Said Digit) (b ∷ bs) i (after s left i)) (λ e. blank_good 0 (omega arith) e)
+      cond_both (blank b) (Some Blank) (by_digit (hex_value b) First) (λ s. Good (Said Digit) (b ∷ bs) i (after s left i)) (λ e. blank_good 0 (omega arith) e)
       (λ e. by_value e (hex_value b) refl)
     where
       by_value : blank b ≡ false → (o : Option ℕ) → hex_value b ≡ o → Good (Said Digit) (b ∷ bs) i (after (by_digit o First) left i)

@@ -1,19 +1,27 @@
--- One letter more of a line that may be passed over.
-use Rattle.std.proofs.Common.{◌≡◌, ℕ, ◌+◌, ◌<◌, ◌≤◌, true, false, cond, eqb, List, length, get_or, drop, ap, ◌∙◌}
-use Rattle.std.proofs.lemmas.List.{at_drop_more, at_drop_all}
+-- A line that may be passed over, by its first letter that is no white space.
+use denote.Ref.{Bor}
+use Rattle.std.proofs.Common.{◌≡◌, ℕ, Bool, true, not, eqb, List, [], ◌∷◌, Some, None, Option, inl, inr, refl}
+use Rattle.std.specs.Bool.{IsTrue}
+use Rattle.std.specs.List.{find}
+use Rattle.std.specs.Option.{MatchOption, option_map}
+use Rattle.std.proofs.lemmas.Bool.{cases_Bool}
 use Rattle.text.specs.Grammar.{blank, passed_over}
 
-pub passed_blank :
-    (line : List ℕ) (i : ℕ) → i < length line → blank (get_or line i 0) ≡ true → passed_over (drop i line) ≡ passed_over (drop (i + 1) line)
-unfolding passed_over
-passed_blank line i h e =
-    at_drop_more passed_over line i 0 h ∙ ap (λ b. cond b (passed_over (drop (i + 1) line)) (eqb (get_or line i 0) 35)) e
+abbrev pub none_or_hash : Option ℕ → Bool
+none_or_hash None = true
+none_or_hash (Some b) = eqb b 35
 
-pub passed_letter : (line : List ℕ) (i : ℕ) → i < length line → blank (get_or line i 0) ≡ false → passed_over (drop i line) ≡ eqb (get_or line i 0) 35
+pub passed_found : (line : List ℕ) → passed_over line ≡ none_or_hash (find (λ b. not (blank b)) line)
 unfolding passed_over
-passed_letter line i h e =
-    at_drop_more passed_over line i 0 h ∙ ap (λ b. cond b (passed_over (drop (i + 1) line)) (eqb (get_or line i 0) 35)) e
+passed_found [] = refl
+passed_found (b ∷ line) =
+    elim (cases_Bool (blank b)) [
+      | inl e ↦ rw e (passed_found line)
+      | inr e ↦ rw e refl
+    ]
 
-pub passed_end : (line : List ℕ) (i : ℕ) → length line ≤ i → passed_over (drop i line) ≡ true
-unfolding passed_over
-passed_end line i h = at_drop_all passed_over line i h
+pub by_letter :
+    (r : Option (Bor ℕ)) (b : Bool) (P : Bor ℕ → Type 0) → MatchOption r (IsTrue b) P → ((x : Bor ℕ) → P x → b ≡ eqb x.now 35) →
+    b ≡ none_or_hash (option_map (λ x. x.now) r)
+by_letter None b P h k = h
+by_letter (Some x) b P h k = k x h

@@ -6,16 +6,16 @@ use Rattle.text.specs.Raw.{hex_value, Keeps}
 use Rattle.text.specs.declared.raw.Awaits.{Awaits}
 use Rattle.text.specs.declared.raw.Awaits.TheVariants.{Gap, Digit, Second}
 use Rattle.text.specs.declared.raw.Step.{Step}
-use Rattle.text.specs.declared.raw.Step.TheVariants.{Blank, First, Pair, Wrong}
+use Rattle.text.specs.declared.raw.Step.TheVariants.{Blank, First, Pair}
 
-abbrev pub by_digit : Option ℕ → (ℕ → Step) → Step
-by_digit (Some n) f = f n
-by_digit None f = Wrong
+abbrev pub by_digit : Option ℕ → (ℕ → Step) → Option Step
+by_digit (Some n) f = Some (f n)
+by_digit None f = None
 
--- what the next byte is
-unfoldable pub step_of : Awaits → ℕ → Step
-step_of Gap b = cond (blank b) Blank Wrong
-step_of Digit b = cond (blank b) Blank (by_digit (hex_value b) First)
+-- what the next byte is, if it can come here
+unfoldable pub step_of : Awaits → ℕ → Option Step
+step_of Gap b = cond (blank b) (Some Blank) None
+step_of Digit b = cond (blank b) (Some Blank) (by_digit (hex_value b) First)
 step_of (Second h) b = by_digit (hex_value b) (λ l. Pair (h * 16 + l))
 
 -- the value of a digit is below 16
@@ -28,17 +28,16 @@ abbrev pub SmallStep : Step → Type 0
 SmallStep (First h) = h < 16
 SmallStep (Pair v) = Unit {0}
 SmallStep Blank = Unit {0}
-SmallStep Wrong = Unit {0}
 
 abbrev pub pushed : ℕ → Result (List ℕ) ℕ → Result (List ℕ) ℕ
 pushed b r = and_then r (λ bs. Ok (b ∷ bs))
 
 -- the answer after a step at place i, by the answers that there are for what is left
-abbrev pub after : Step → (Awaits → Result (List ℕ) ℕ) → ℕ → Result (List ℕ) ℕ
-after Blank left i = left Digit
-after (First h) left i = left (Second h)
-after (Pair b) left i = pushed b (left Gap)
-after Wrong left i = Err i
+abbrev pub after : Option Step → (Awaits → Result (List ℕ) ℕ) → ℕ → Result (List ℕ) ℕ
+after (Some Blank) left i = left Digit
+after (Some (First h)) left i = left (Second h)
+after (Some (Pair b)) left i = pushed b (left Gap)
+after None left i = Err i
 
 -- the bytes that are said from place i on, or the place of the first byte that doesn't fit
 unfoldable pub pairs_at : Awaits → List ℕ → ℕ → Result (List ℕ) ℕ

@@ -9,6 +9,16 @@ abbrev pub and_then : {X Y : Type 0} → Result X ℕ → (X → Result Y ℕ) �
 and_then (Ok x) f = f x
 and_then (Err i) f = Err i
 
+-- the place after a step of reading, where the code then stands
+abbrev pub placed : Result (Unit {0}) ℕ → ℕ → Result ℕ ℕ
+placed (Ok u) j = Ok j
+placed (Err i) j = Err i
+
+-- a number that was found, and the place after it
+abbrev pub found : Result ℕ ℕ → ℕ → Result (ℕ × ℕ) ℕ
+found (Ok n) j = Ok (n, j)
+found (Err i) j = Err i
+
 -- where white space ends
 unfoldable pub past : List ℕ → ℕ → ℕ
 past [] i = i

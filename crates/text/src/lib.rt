@@ -2,9 +2,11 @@
 // Each reader starts at a place of the line, and answers what it read and the place after it, or else the place of the first byte that doesn't fit.
 #![tactic(auto)]
 
-ghost use Rattle.std.specs.Prelude.{◌≡◌, ◌≤◌, drop};
-ghost use Rattle.text.specs.Grammar.{blank, digit, number_of, Reads, passed_over};
+ghost use Rattle.std.specs.Prelude.{◌≡◌, ◌+◌, ◌-◌, ◌*◌, ◌^◌, ◌<◌, ◌≤◌, drop, SomeIff};
+ghost use Rattle.text.specs.Grammar.{blank, number_of, Reads, passed_over};
 ghost use Rattle.text.specs.Reader.{
+  placed,
+  found,
   past,
   gap_at,
   letters_at,
@@ -31,201 +33,219 @@ mod raw;
 
 pub use raw::{Raw, read_bytes};
 
-// The largest number in a line.
-const TOP: u64 = 4294967295;
-
 fn is_blank(b: u8) -> bool
     ensures { result ≡ blank b }
 {
     b == b' ' || b == b'\t'
 }
 
-fn is_digit(b: u8) -> bool
-    ensures { result ≡ digit b }
+// The number with one digit more, if it fits.
+fn with_digit(n: u32, digit: u8) -> Option<u32>
+    requires { 48 ≤ digit }
+    ensures { SomeIff result (n * 10 + (digit - 48) < 2 ^ 32) (n * 10 + (digit - 48)) }
 {
-    b'0' <= b && b <= b'9'
+    n.checked_mul(10)?.checked_add(u32::from(digit - b'0'))
 }
 
-fn skip_blanks(line: &[u8], from: usize) -> usize
-    ensures place { result ≡ past (drop from line.now) from }
-    ensures onward { from ≤ result }
-{
-    let mut i = from;
-    while i < line.len() && is_blank(line[i]) {
-        i += 1;
+// A line, and the place from which it is to be read on.
+#[derive(Clone, Copy)]
+struct Cursor<'a> {
+    line: &'a [u8],
+    at: usize,
+}
+
+impl<'a> Cursor<'a> {
+    // What is left of the line.
+    fn rest(&self) -> &'a [u8]
+        ensures { result.now ≡ drop self.now.at self.now.line.now }
+    {
+        self.line.get(self.at..).unwrap_or(&[])
     }
-    i
-}
 
-// White space, at least one byte of it.
-fn gap(line: &[u8], from: usize) -> Result<usize, usize>
-    ensures { result ≡ gap_at 1 line.now from }
-{
-    let i = skip_blanks(line, from);
-    if i == from { Err(i) } else { Ok(i) }
-}
+    fn skip_blanks(&mut self)
+        ensures line { self.new.line.now ≡ self.old.line.now }
+        ensures at { self.new.at ≡ past (drop self.old.at self.old.line.now) self.old.at }
+        ensures onward { self.old.at ≤ self.new.at }
+    {
+        let rest = self.rest();
+        self.at += rest.iter().take_while(|b| is_blank(**b)).count();
+    }
 
-// The word, letter by letter.
-fn letters(line: &[u8], from: usize, word: &[u8]) -> Result<usize, usize>
-    ensures { result ≡ letters_at word.now (drop from line.now) from }
-{
-    let mut i = from;
-    for w in word {
-        if i < line.len() && line[i] == *w {
-            i += 1;
+    // White space, at least one byte of it.
+    fn gap(&mut self) -> Result<(), usize>
+        ensures line { self.new.line.now ≡ self.old.line.now }
+        ensures at { placed result self.new.at ≡ gap_at 1 self.old.line.now self.old.at }
+    {
+        let from = self.at;
+        self.skip_blanks();
+        if self.at == from { Err(from) } else { Ok(()) }
+    }
+
+    // The word, letter by letter.
+    fn letters(&mut self, word: &[u8]) -> Result<(), usize>
+        ensures line { self.new.line.now ≡ self.old.line.now }
+        ensures at { placed result self.new.at ≡ letters_at word.now (drop self.old.at self.old.line.now) self.old.at }
+    {
+        let rest = self.rest();
+        let same = rest
+            .iter()
+            .zip(word)
+            .take_while(|(b, w)| **b == **w)
+            .count();
+        self.at += same;
+        if same < word.len() {
+            Err(self.at)
         } else {
-            return Err(i);
+            Ok(())
         }
     }
-    Ok(i)
-}
 
-// The word that a line begins with, after any white space.
-fn first_word(line: &[u8], word: &[u8]) -> Result<usize, usize>
-    ensures { result ≡ word_at word.now 0 line.now 0 }
-{
-    let i = skip_blanks(line, 0);
-    letters(line, i, word)
-}
-
-// White space and a word.
-fn next_word(line: &[u8], from: usize, word: &[u8]) -> Result<usize, usize>
-    ensures { result ≡ word_at word.now 1 line.now from }
-{
-    let i = gap(line, from)?;
-    letters(line, i, word)
-}
-
-// All digits from here on, which may be none, and their number.
-fn digits(line: &[u8], from: usize) -> Result<(u32, usize), usize>
-    ensures { result ≡ digits_at (drop from line.now) 0 from }
-{
-    let mut n: u32 = 0;
-    let mut i = from;
-    while i < line.len() && is_digit(line[i]) {
-        let more = n as u64 * 10 + (line[i] - b'0') as u64;
-        if more > TOP {
-            return Err(i);
-        }
-        n = more as u32;
-        i += 1;
+    // The word that a line begins with, after any white space.
+    fn first_word(&mut self, word: &[u8]) -> Result<(), usize>
+        ensures line { self.new.line.now ≡ self.old.line.now }
+        ensures at { placed result self.new.at ≡ word_at word.now 0 self.old.line.now self.old.at }
+    {
+        self.skip_blanks();
+        self.letters(word)
     }
-    Ok((n, i))
-}
 
-// White space and a number, which has at least one digit.
-fn number(line: &[u8], from: usize) -> Result<(u32, usize), usize>
-    ensures { result ≡ number_at 1 line.now from }
-{
-    let i = gap(line, from)?;
-    let (n, after) = digits(line, i)?;
-    if after == i { Err(i) } else { Ok((n, after)) }
-}
+    // White space and a word.
+    fn next_word(&mut self, word: &[u8]) -> Result<(), usize>
+        ensures line { self.new.line.now ≡ self.old.line.now }
+        ensures at { placed result self.new.at ≡ word_at word.now 1 self.old.line.now self.old.at }
+    {
+        self.gap()?;
+        self.letters(word)
+    }
 
-// The call, if the line ends here but for white space.
-fn end(line: &[u8], from: usize, call: Call) -> Result<Call, usize>
-    ensures { result ≡ end_at line.now from call }
-{
-    let i = skip_blanks(line, from);
-    if i == line.len() { Ok(call) } else { Err(i) }
+    // All digits from here on, which may be none, and their number.
+    fn digits(&mut self) -> Result<u32, usize>
+        ensures line { self.new.line.now ≡ self.old.line.now }
+        ensures at { found result self.new.at ≡ digits_at (drop self.old.at self.old.line.now) 0 self.old.at }
+    {
+        let mut n: u32 = 0;
+        for b in self.rest() {
+            if !b.is_ascii_digit() {
+                break;
+            }
+            n = with_digit(n, *b).ok_or(self.at)?;
+            self.at += 1;
+        }
+        Ok(n)
+    }
+
+    // White space and a number, which has at least one digit.
+    fn number(&mut self) -> Result<u32, usize>
+        ensures line { self.new.line.now ≡ self.old.line.now }
+        ensures at { found result self.new.at ≡ number_at 1 self.old.line.now self.old.at }
+    {
+        self.gap()?;
+        let from = self.at;
+        let n = self.digits()?;
+        if self.at == from { Err(from) } else { Ok(n) }
+    }
+
+    // The call, if the line ends here but for white space.
+    fn end(mut self, call: Call) -> Result<Call, usize>
+        ensures { result ≡ end_at self.entry.line.now self.entry.at call }
+    {
+        self.skip_blanks();
+        if self.at == self.line.len() {
+            Ok(call)
+        } else {
+            Err(self.at)
+        }
+    }
 }
 
 fn sit(line: &[u8]) -> Result<Call, usize>
     ensures { result ≡ fit sit_form 0 line.now 0 }
 {
-    let i = first_word(line, b"sit")?;
-    let (ticks, i) = number(line, i)?;
-    end(line, i, Call::Sit(ticks))
+    let mut line = Cursor { line, at: 0 };
+    line.first_word(b"sit")?;
+    let ticks = line.number()?;
+    line.end(Call::Sit(ticks))
 }
 
 fn play(line: &[u8]) -> Result<Call, usize>
     ensures { result ≡ fit play_form 0 line.now 0 }
 {
-    let i = first_word(line, b"play")?;
-    let (table, i) = number(line, i)?;
-    let (player, i) = number(line, i)?;
-    let (rule, i) = number(line, i)?;
-    let (first, i) = number(line, i)?;
-    let (second, i) = number(line, i)?;
+    let mut line = Cursor { line, at: 0 };
+    line.first_word(b"play")?;
+    let table = line.number()?;
+    let player = line.number()?;
     let played = Move {
-        rule,
-        first,
-        second,
+        rule: line.number()?,
+        first: line.number()?,
+        second: line.number()?,
     };
-    end(
-        line,
-        i,
-        Call::Play {
-            table,
-            player,
-            played,
-        },
-    )
+    line.end(Call::Play {
+        table,
+        player,
+        played,
+    })
 }
 
 fn ticks(line: &[u8]) -> Result<Call, usize>
     ensures { result ≡ fit ticks_form 0 line.now 0 }
 {
-    let i = first_word(line, b"ticks")?;
-    let (n, i) = number(line, i)?;
-    end(line, i, Call::Ticks(n))
+    let mut line = Cursor { line, at: 0 };
+    line.first_word(b"ticks")?;
+    let n = line.number()?;
+    line.end(Call::Ticks(n))
 }
 
 fn see(line: &[u8]) -> Result<Call, usize>
     ensures { result ≡ fit see_form 0 line.now 0 }
 {
-    let i = first_word(line, b"see")?;
-    let (table, i) = number(line, i)?;
-    end(line, i, Call::See(table))
+    let mut line = Cursor { line, at: 0 };
+    line.first_word(b"see")?;
+    let table = line.number()?;
+    line.end(Call::See(table))
 }
 
 fn may(line: &[u8]) -> Result<Call, usize>
     ensures { result ≡ fit may_form 0 line.now 0 }
 {
-    let i = first_word(line, b"may")?;
-    let (table, i) = number(line, i)?;
-    end(line, i, Call::May(table))
+    let mut line = Cursor { line, at: 0 };
+    line.first_word(b"may")?;
+    let table = line.number()?;
+    line.end(Call::May(table))
 }
 
 fn back(line: &[u8]) -> Result<Call, usize>
     ensures { result ≡ fit back_form 0 line.now 0 }
 {
-    let i = first_word(line, b"back")?;
-    let (table, i) = number(line, i)?;
-    let (moves, i) = number(line, i)?;
-    end(line, i, Call::Back { table, moves })
+    let mut line = Cursor { line, at: 0 };
+    line.first_word(b"back")?;
+    let table = line.number()?;
+    let moves = line.number()?;
+    line.end(Call::Back { table, moves })
 }
 
 fn can_force(line: &[u8]) -> Result<Call, usize>
     ensures { result ≡ fit force_form 0 line.now 0 }
 {
-    let i = first_word(line, b"can")?;
-    let i = next_word(line, i, b"force")?;
-    let (table, i) = number(line, i)?;
-    let (player, i) = number(line, i)?;
-    let (gain, i) = number(line, i)?;
-    let (within, i) = number(line, i)?;
-    end(
-        line,
-        i,
-        Call::CanForce {
-            table,
-            player,
-            gain,
-            within,
-        },
-    )
+    let mut line = Cursor { line, at: 0 };
+    line.first_word(b"can")?;
+    line.next_word(b"force")?;
+    let table = line.number()?;
+    let player = line.number()?;
+    let gain = line.number()?;
+    let within = line.number()?;
+    line.end(Call::CanForce {
+        table,
+        player,
+        gain,
+        within,
+    })
 }
 
 // The call if one of two readings found one, and else the place that is further on.
 fn better_of(a: Result<Call, usize>, b: Result<Call, usize>) -> Result<Call, usize>
     ensures { result ≡ better a b }
 {
-    match (a, b) {
-        (Ok(call), _) => Ok(call),
-        (Err(_), Ok(call)) => Ok(call),
-        (Err(i), Err(j)) => Err(i.max(j)),
-    }
+    a.or_else(|i| b.map_err(|j| i.max(j)))
 }
 
 // The call whose line this is, or the length of the longest front of it that some call's line begins with.
@@ -233,41 +253,39 @@ pub fn read_call(line: &[u8]) -> Result<Call, usize>
     ensures value { result ≡ call_of line.now }
     ensures means { Reads line.now result }
 {
-    let best = sit(line);
-    let best = better_of(best, play(line));
-    let best = better_of(best, ticks(line));
-    let best = better_of(best, see(line));
-    let best = better_of(best, may(line));
-    let best = better_of(best, back(line));
-    better_of(best, can_force(line))
+    let others = [
+        play(line),
+        ticks(line),
+        see(line),
+        may(line),
+        back(line),
+        can_force(line),
+    ];
+    others
+        .iter()
+        .fold(sit(line), |best, next| better_of(best, *next))
 }
 
 // The number that a word is, if it is digits and not too large.
 pub fn read_number(word: &[u8]) -> Option<u32>
     ensures { result ≡ number_of word.now }
 {
-    let Ok((n, end)) = digits(word, 0) else {
-        return None;
-    };
-    if end == 0 {
-        return None;
+    let mut cursor = Cursor { line: word, at: 0 };
+    let n = cursor.digits().ok()?;
+    if cursor.at > 0 && cursor.at == word.len() {
+        Some(n)
+    } else {
+        None
     }
-    if end < word.len() {
-        return None;
-    }
-    Some(n)
 }
 
 // Whether a line is blank or a comment.
 pub fn is_passed_over(line: &[u8]) -> bool
     ensures { result ≡ passed_over line.now }
 {
-    for b in line {
-        if !is_blank(*b) {
-            return *b == b'#';
-        }
-    }
-    true
+    line.iter()
+        .find(|b| !is_blank(**b))
+        .is_none_or(|b| *b == b'#')
 }
 
 // No line is the line of two calls.

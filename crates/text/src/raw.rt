@@ -3,15 +3,16 @@ ghost use Rattle.std.specs.Prelude.{◌≡◌, ℕ, ◌<◌, List, length, IfSom
 ghost use Rattle.text.specs.Raw.{hex_value, RawReads, Kept};
 ghost use Rattle.text.specs.RawReader.{step_of, Small, SmallStep, pairs_from, raw_of, Filled};
 
-use super::{first_word, is_blank};
+use super::{Cursor, is_blank};
 
 // How many bytes are kept. No call has more than 21, so these are enough to tell a call from what is longer.
 const MOST: usize = 22;
 
 // The bytes that a line says: the first of them, and how many there are in all.
+// No ArrayVec, since `count` is no length of `bytes`: it counts also those for which there is no room.
 #[derive(Clone, Copy)]
 pub struct Raw {
-    pub bytes: [u8; 22],
+    pub bytes: [u8; MOST],
     pub count: usize,
 }
 
@@ -23,82 +24,60 @@ enum Awaits {
     Second(u8),
 }
 
-// What a byte is: white space, the first digit of a pair, the second digit and so the byte that the pair says, or a byte that can't come here.
+// What a byte is: white space, the first digit of a pair, or the second digit and so the byte that the pair says.
 #[derive(Clone, Copy)]
 enum Step {
     Blank,
     First(u8),
     Pair(u8),
-    Wrong,
 }
 
 fn hex_value(b: u8) -> Option<u8>
     ensures value { result ≡ hex_value b }
     ensures small { IfSome result (λ h. h < 16) }
 {
-    if b'0' <= b && b <= b'9' {
-        return Some(b - b'0');
-    }
-    if b'a' <= b && b <= b'f' {
-        return Some(b - b'a' + 10);
-    }
-    if b'A' <= b && b <= b'F' {
-        return Some(b - b'A' + 10);
-    }
-    None
+    let digit = char::from(b).to_digit(16)?;
+    Some(digit as u8)
 }
 
-fn next_step(awaits: Awaits, b: u8) -> Step
+// What a byte is, if it can come here.
+#[tactic(auto, unfolding(crate::specs::RawReader::step_of))]
+fn next_step(awaits: Awaits, b: u8) -> Option<Step>
     requires { Small awaits }
     ensures value { result ≡ step_of awaits b }
-    ensures small { SmallStep result }
+    ensures small { IfSome result SmallStep }
 {
     match awaits {
-        Awaits::Gap => if is_blank(b) {
-            Step::Blank
-        } else {
-            Step::Wrong
-        },
-        Awaits::Digit => {
-            if is_blank(b) {
-                return Step::Blank;
-            }
-            match hex_value(b) {
-                Some(high) => Step::First(high),
-                None => Step::Wrong,
-            }
-        }
-        Awaits::Second(high) => match hex_value(b) {
-            Some(low) => Step::Pair(high * 16 + low),
-            None => Step::Wrong,
-        },
+        Awaits::Gap => is_blank(b).then_some(Step::Blank),
+        Awaits::Digit if is_blank(b) => Some(Step::Blank),
+        Awaits::Digit => Some(Step::First(hex_value(b)?)),
+        Awaits::Second(high) => Some(Step::Pair(high * 16 + hex_value(b)?)),
     }
 }
 
-// Reads the pairs from a place on, keeps as many as there is room for, and counts them.
-fn fill(line: &[u8], from: usize, bytes: &mut [u8]) -> Result<usize, usize>
-    ensures { Filled (pairs_from line.now from) (length bytes.old) bytes.new result }
+// Reads the pairs to the line's end, keeps as many as there is room for, and counts them.
+fn fill(mut cursor: Cursor, bytes: &mut [u8]) -> Result<usize, usize>
+    ensures { Filled (pairs_from cursor.entry.line.now cursor.entry.at) (length bytes.old) bytes.new result }
 {
     let mut awaits = Awaits::Gap;
     let mut count: usize = 0;
-    let mut i = from;
-    while i < line.len() {
-        match next_step(awaits, line[i]) {
+    for b in cursor.rest() {
+        let step = next_step(awaits, *b).ok_or(cursor.at)?;
+        match step {
             Step::Blank => awaits = Awaits::Digit,
             Step::First(high) => awaits = Awaits::Second(high),
-            Step::Pair(b) => {
+            Step::Pair(byte) => {
                 if count < bytes.len() {
-                    bytes[count] = b;
+                    bytes[count] = byte;
                 }
                 count += 1;
                 awaits = Awaits::Gap;
             }
-            Step::Wrong => return Err(i),
         }
-        i += 1;
+        cursor.at += 1;
     }
     match awaits {
-        Awaits::Second(_) => Err(i),
+        Awaits::Second(_) => Err(cursor.at),
         _ => Ok(count),
     }
 }
@@ -108,8 +87,9 @@ pub fn read_bytes(line: &[u8]) -> Result<Raw, usize>
     ensures value { Kept (raw_of line.now) result }
     ensures means { (said : Result (List ℕ) ℕ) × RawReads line.now said × Kept said result }
 {
-    let from = first_word(line, b"bytes")?;
+    let mut cursor = Cursor { line, at: 0 };
+    cursor.first_word(b"bytes")?;
     let mut bytes = [0; MOST];
-    let count = fill(line, from, &mut bytes)?;
+    let count = fill(cursor, &mut bytes)?;
     Ok(Raw { bytes, count })
 }

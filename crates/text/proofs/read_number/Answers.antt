@@ -1,21 +1,15 @@
-use Rattle.std.proofs.Common.{Ok, Err, arith}
-use Rattle.text.proofs.Numbers.{digits_said, number_whole, number_cut, number_none, number_large}
+use Rattle.std.proofs.Common.{sym, ◌∙◌, ⊎_elim, arith}
+use Rattle.text.proofs.Numbers.{number_missing, number_left, number_read}
 use Rattle.text.proofs.read_number.Goals as goal
 
-pub returns-in_default : goal.returns-in_default
-returns-in_default c = number_large c.args.word.now c.in_default.field-0 (digits_said c.args.word.now (Err c.in_default.field-0) c.in_default.ensures)
+pub returns-in_err-n : goal.returns-in_err-n
+returns-in_err-n c = c.from_residual.ensures ∙ number_missing c.args.word.now c.digits.result c.digits.new.self.at c.digits.ensures.at (sym c.ok.ensures.value ∙ c.in_err-n.was)
 
-pub returns-then-end-eq0 : goal.returns-then-end-eq0
-returns-then-end-eq0 c =
-    number_none c.args.word.now c.in-Ok.n c.in-Ok.end
-    (digits_said c.args.word.now (Ok (c.in-Ok.n, c.in-Ok.end)) c.in-Ok.ensures) c.if-end-eq0.true
+pub returns-then-cursor-word : goal.returns-then-cursor-word
+returns-then-cursor-word c =
+    number_read c.args.word.now c.digits.result c.in_ok-n.n c.digits.new.self.at c.digits.ensures.at (sym c.ok.ensures.value ∙ c.in_ok-n.was) (omega arith) (omega arith)
 
-pub returns-then-end-word : goal.returns-then-end-word
-returns-then-end-word c =
-    number_cut c.args.word.now c.in-Ok.n c.in-Ok.end
-    (digits_said c.args.word.now (Ok (c.in-Ok.n, c.in-Ok.end)) c.in-Ok.ensures) c.if-end-word.true
-
-pub returns : goal.returns
-returns c =
-    number_whole c.args.word.now c.in-Ok.n c.in-Ok.end
-    (digits_said c.args.word.now (Ok (c.in-Ok.n, c.in-Ok.end)) c.in-Ok.ensures) (omega arith) c.if-end-word.false
+pub returns-else-cursor-gt0 : goal.returns-else-cursor-gt0
+returns-else-cursor-gt0 c =
+    number_left c.args.word.now c.digits.result c.in_ok-n.n c.digits.new.self.at c.digits.ensures.at (sym c.ok.ensures.value ∙ c.in_ok-n.was)
+    (λ l e. ⊎_elim (λ w. w.1 e) (λ w. omega arith) c.else-cursor-gt0.either)

@@ -1,15 +1,15 @@
-use Rattle.std.proofs.Common.{get_or, sym}
+use Rattle.std.proofs.Common.{get_or, rules}
 use Rattle.game_text.proofs.Settling.{gap_digit, gap_letter, digits_digit}
 use Rattle.game_text.proofs.steps.add.Goals as goal
 
-pub returns-then-is_digit : goal.returns-then-is_digit
-returns-then-is_digit c =
-    gap_digit c.args.text.now c.args.i (get_or c.args.text.now c.args.i 0) c.args.token c.args.p c.add_digit.result c.in-Gap.is (sym c.if-is_digit.ensures)
+pub returns-in-Gap : goal.returns-in-Gap
+returns-in-Gap c =
+    gap_digit c.args.text.now c.args.i (get_or c.args.text.now c.args.i 0) c.args.token c.args.p c.add_digit.result c.in-Gap.is (search rules)
     (c.add_digit.ensures c.args.text.now)
 
-pub returns-else-is_digit : goal.returns-else-is_digit
-returns-else-is_digit c =
-    gap_letter c.args.text.now c.args.i (get_or c.args.text.now c.args.i 0) c.args.token c.args.p c.add_letter.result c.in-Gap.is (sym c.if-is_digit.ensures)
+pub returns-in-Gap-2 : goal.returns-in-Gap-2
+returns-in-Gap-2 c =
+    gap_letter c.args.text.now c.args.i (get_or c.args.text.now c.args.i 0) c.args.token c.args.p c.add_letter.result c.in-Gap-2.is (search rules)
     c.add_letter.ensures
 
 pub returns-in-Digits : goal.returns-in-Digits

@@ -1,15 +1,12 @@
-use Rattle.std.proofs.Common.{arith}
-use Rattle.text.proofs.Hex.{hex_decimal, hex_lower, hex_upper, hex_none}
+use Rattle.std.proofs.Common.{◌≡◌, Some, None, subst, ◌∙◌}
+use Rattle.text.specs.Raw.{hex_value}
+use Rattle.text.proofs.Hex.{hex_of}
 use Rattle.text.proofs.raw.hex_value.Goals as goal
 
-pub returns-then-b-le57 : goal.returns-then-b-le57
-returns-then-b-le57 c = record { value = hex_decimal c.args.b c.if-b-ge48.true c.if-b-le57.true; small = omega arith }
+pub returns-in_err-digit-clause-value : goal.returns-in_err-digit-clause-value
+returns-in_err-digit-clause-value c =
+    c.from_residual.ensures ∙ subst (λ b. None ≡ hex_value b) c.from.ensures (hex_of c.from.result None c.in_err-digit.ensures.value)
 
-pub returns-then-b-le102 : goal.returns-then-b-le102
-returns-then-b-le102 c = record { value = hex_lower c.args.b c.if-b-ge97.true c.if-b-le102.true; small = omega arith }
-
-pub returns-then-b-le70 : goal.returns-then-b-le70
-returns-then-b-le70 c = record { value = hex_upper c.args.b c.if-b-ge65.true c.if-b-le70.true; small = omega arith }
-
-pub returns : goal.returns
-returns c = record { value = hex_none c.args.b (λ l u. omega arith) (λ l u. omega arith) (λ l u. omega arith); small = tt }
+pub returns-clause-value : goal.returns-clause-value
+returns-clause-value c =
+    subst (λ b. Some c.in_ok-digit.digit ≡ hex_value b) c.from.ensures (hex_of c.from.result (Some c.in_ok-digit.digit) c.in_ok-digit.ensures.value)
