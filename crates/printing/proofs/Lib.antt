@@ -1,6 +1,7 @@
 mod Putting
 mod Standing
 mod Rows
+mod KindNumbers
 mod Heads
 mod Lines
 mod Texts
