@@ -1,6 +1,5 @@
 -- Bytes put one after the other are put together.
-use Rattle.std.proofs.Common.{◌≡◌, ℕ, ◌+◌, ◌/◌, ◌%◌, ◌^◌, ◌<◌, ◌≤◌, min, List, [], ◌∷◌, ◌++◌, length, get_or, take, set, decimal, sym, refl, ap, ◌∙◌, subst, arith}
-use Rattle.std.proofs.lemmas.Fmt.{decimal_digit, decimal_step}
+use Rattle.std.proofs.Common.{◌≡◌, ℕ, ◌+◌, ◌<◌, ◌≤◌, min, List, [], ◌∷◌, ◌++◌, length, get_or, take, set, sym, refl, ap, ◌∙◌, arith}
 use Rattle.std.proofs.lemmas.List.{append_assoc, length-append, length_push, take_more, set_past, set_at}
 use Rattle.game_text.specs.Filling.{filled}
 use Rattle.printing.specs.declared.writer.Writer.{Writer}
@@ -31,13 +30,6 @@ nothing a = record { same_memory = refl; place = refl; bytes = refl }
 -- one letter of a word more
 pub letter : {a b c : Writer} (w : List ℕ) (k : ℕ) → k < length w → Wrote a (take k w) b → Wrote b (get_or w k 0 ∷ []) c → Wrote a (take (k + 1) w) c
 letter w k h f g = rw (take_more w k 0 h) (join f g)
-
--- one digit, and a last digit after others
-pub digit : {a b : Writer} (n : ℕ) → n < 10 → Wrote a ((48 + n % 10) ∷ []) b → Wrote a (decimal n) b
-digit {a} {b} n l h = rw (decimal_digit n l) (subst (λ k. Wrote a ((48 + k) ∷ []) b) {x = n % 10} {y = n} (omega arith) h)
-
-pub digits : {a b c : Writer} (n : ℕ) → 10 ≤ n → n < 2 ^ 32 → Wrote a (decimal (n / 10)) b → Wrote b ((48 + n % 10) ∷ []) c → Wrote a (decimal n) c
-digits n l s h g = rw (decimal_step n l (omega arith)) (join h g)
 
 -- past memory nothing is put
 put_past : (i : ℕ) (bs old : List ℕ) → length old ≤ i → length old ≤ 18446744073709551615 → put i bs old ≡ old

@@ -2,6 +2,7 @@
 ghost use Rattle.std.specs.Prelude.{[], ◌∷◌, decimal};
 ghost use Rattle.printing.specs.Puts.{Wrote};
 
+use itoa::Buffer;
 use wire::put;
 
 // Lent memory, and the place in it where the text goes on. Places stop at the largest number, and past memory nothing is put.
@@ -31,10 +32,8 @@ impl Writer<'_> {
     pub fn decimal(&mut self, n: u32)
         ensures { Wrote self.old (decimal n) self.new }
     {
-        if n >= 10 {
-            self.decimal(n / 10);
-        }
-        self.byte(b'0' + (n % 10) as u8);
+        let mut digits = Buffer::new();
+        self.word(digits.format(n).as_bytes());
     }
 
     // A blank and a number.
