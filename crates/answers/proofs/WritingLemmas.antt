@@ -22,6 +22,12 @@ module _ (k : ℕ) (ns old : List ℕ) where
       → (Some (1 + 4 * length ns) ≡ room 0 (k ∷ fields_bytes ns) old) × (new ≡ written 0 (k ∷ fields_bytes ns) old)
   all_written h e = (room_for 0 (1 + 4 * length ns) (k ∷ fields_bytes ns) old (omega (arith, length_fields_bytes ns)) (omega arith), after_kind old k ns e h)
 
+-- a kind and one number, put by itself
+pub one_written :
+    (old new : List ℕ) (k n : ℕ) → 5 ≤ length old → new ≡ written 1 (number_bytes 4 n) (set old 0 k) → new ≡ written 0 (k ∷ fields_bytes (n ∷ [])) old
+one_written old new k n fits e = after_kind old k (n ∷ []) (first_field (set old 0 k) 1 n e) fits
+
+-- a position
 pub shown_written :
     (old a b d e new cells clocks : List ℕ) (k t u : ℕ) → 17 + 4 * length cells + 4 * length clocks ≤ length old
     → a ≡ written 1 (number_bytes 4 (length cells)) (set old 0 k) → b ≡ written 5 (fields_bytes cells) a
