@@ -1,5 +1,6 @@
 mod Putting
 mod Standing
+mod Fits
 mod Rows
 mod KindNumbers
 mod Heads

@@ -1,10 +1,10 @@
 -- The lines of a game, put one after the other.
-use Rattle.std.proofs.Common.{◌≡◌, ℕ, ◌%◌, true, ◌&&◌, ltb, List, [], ◌∷◌, ◌++◌, length, get_or, drop, codes, decimal, sym, refl, ap, ◌∙◌, subst, append_assoc, append-nil}
-use Rattle.std.proofs.lemmas.Bool.{and_parts, and_from, ltb-true}
+use Rattle.std.proofs.Common.{◌≡◌, ℕ, ◌%◌, ◌<◌, true, ◌&&◌, ltb, List, [], ◌∷◌, ◌++◌, length, get_or, drop, codes, decimal, sym, refl, ap, ◌∙◌, subst, append_assoc, append-nil}
+use Rattle.std.proofs.lemmas.Bool.{and_parts, and_from, ltb-true, lt-ltb}
 use Rattle.rules.specs.Rules.{Expr, Game}
 use Rattle.rules.specs.Bounds.{all_below}
 use Rattle.wire.specs.Exprs.{expr_bytes, expr_fits}
-use Rattle.wire.specs.Games.{cells_bytes, effects_bytes, rule_bytes, game_bytes, effects_fit, rule_fits, rules_fit, fits_bytes}
+use Rattle.wire.specs.Games.{cells_bytes, effects_bytes, rule_bytes, game_bytes, fits_bytes}
 use Rattle.wire.specs.Numbers.{number_bytes}
 use Rattle.wire.specs.Fields.{field_at}
 use Rattle.wire.proofs.Numbers.{length_bytes}
@@ -15,6 +15,7 @@ use Rattle.printing.specs.Games.{spaced, numbers_text, line, printed_effects, pr
 use Rattle.printing.specs.Puts.{Wrote}
 use Rattle.printing.specs.Sorts.{cells, effects, rules, effect_bytes}
 use Rattle.printing.specs.Walk.{exprs_bytes, exprs_fit, exprs_pieces, Walked, OnePut, AllPut, EachPut, exprs_text, exprs_line}
+use Rattle.printing.proofs.Fits.{rule_parts, game_parts}
 use Rattle.printing.proofs.Putting.{join}
 use Rattle.printing.proofs.Standing.{rest_at, two_at, byte_at}
 
@@ -55,12 +56,12 @@ alone w {left = left} {a = a} {b = b} e rest h stands fits =
 -- two numbers of two bytes
 pair :
     {bs left : List ℕ} {a b : Writer} (n m : ℕ) (rest : List ℕ) → EachPut cells 2 bs a b left → bs ≡ number_bytes 2 n ++ (number_bytes 2 m ++ rest) →
-    ltb n 65536 ≡ true → ltb m 65536 ≡ true → Walked a b (spaced (number n ∷ number m ∷ [])) left rest
+    n < 65536 → m < 65536 → Walked a b (spaced (number n ∷ number m ∷ [])) left rest
 unfolding cells_bytes all_below number_pieces
 pair n m rest h stands f g =
     h (n ∷ m ∷ []) rest
     (stands ∙ ap (λ x. number_bytes 2 n ++ x) (ap (λ x. x ++ rest) (sym (append-nil (number_bytes 2 m)))) ∙ sym (append_assoc (number_bytes 2 n) (number_bytes 2 m ++ []) rest))
-    (and_from (ltb n 65536) (ltb m 65536 && true) f (and_from (ltb m 65536) true g refl)) refl
+    (and_from (ltb n 65536) (ltb m 65536 && true) (lt-ltb n 65536 f) (and_from (ltb m 65536) true (lt-ltb m 65536 g) refl)) refl
 
 regroup : (w a n m : List ℕ) → w ++ (a ++ (n ++ m)) ≡ (w ++ (a ++ n)) ++ m
 regroup w a n m = simp append_assoc
@@ -70,22 +71,19 @@ pub rule_put :
     {bs r₂ r₄ r₅ left : List ℕ} {a₀ a₁ a₂ a₃ a₄ a₅ : Writer} (v : ℕ) → Wrote a₀ (codes "rule") a₁ → EachPut cells 2 bs a₁ a₂ r₂ → Wrote a₂ (10 ∷ []) a₃ →
     AllPut exprs_bytes exprs_fit (exprs_line (codes "  may")) 1 r₂ a₃ a₄ r₄ → v ≡ get_or r₄ 0 0 → r₅ ≡ drop 1 r₄ → EachPut effects v r₅ a₄ a₅ left →
     OnePut rules bs a₀ a₅ left
-unfolding rule_bytes rule_fits line
+unfolding rule_bytes line
 rule_put {bs = bs} {a₀ = a₀} {a₅ = a₅} v h₁ h₂ h₃ h₄ is on h₅ u rest stands fits =
     let a = u.first_bound in
     let b = u.second_bound in
     let n = length u.effects in
-    let f = and_parts (ltb a 65536 && ltb b 65536) (expr_fits u.guard && (ltb n 256 && effects_fit u.effects)) fits in
-    let ab = and_parts (ltb a 65536) (ltb b 65536) f.0 in
-    let g = and_parts (expr_fits u.guard) (ltb n 256 && effects_fit u.effects) f.1 in
-    let k = and_parts (ltb n 256) (effects_fit u.effects) g.1 in
+    let f = rule_parts u fits in
     let bytes : bs ≡ number_bytes 2 a ++ (number_bytes 2 b ++ (expr_bytes u.guard ++ (number_bytes 1 n ++ (effects_bytes u.effects ++ rest)))) =
     stands ∙ simp append_assoc
     in
-    let w₂ = pair a b _ h₂ bytes ab.0 ab.1 in
-    let w₄ = alone (codes "  may") u.guard _ h₄ w₂.next g.0 in
-    let count : v ≡ n = is ∙ byte_at n _ (ltb-true n 256 k.0) w₄.next in
-    let w₅ = h₅ u.effects rest (rest_at 1 (number_bytes 1 n) on w₄.next (length_bytes 1 n)) k.1 (sym count) in
+    let w₂ = pair a b _ h₂ bytes f.first f.second in
+    let w₄ = alone (codes "  may") u.guard _ h₄ w₂.next f.guard in
+    let count : v ≡ n = is ∙ byte_at n _ f.count w₄.next in
+    let w₅ = h₅ u.effects rest (rest_at 1 (number_bytes 1 n) on w₄.next (length_bytes 1 n)) f.effects (sym count) in
     let may : List ℕ = line (codes "  may") (expr_pieces u.guard) ++ printed_effects u.effects in
     record {
       wrote =
@@ -116,24 +114,19 @@ pub game_put :
     Wrote a₁ (32 ∷ decimal p) a₂ → Wrote a₂ (10 ∷ codes "cells") a₃ → n ≡ field_at r₁ 0 % 65536 → r₂ ≡ drop 2 r₁ → EachPut cells n r₂ a₃ a₄ r₄ → Wrote a₄ (10 ∷ []) a₅ →
     m ≡ get_or r₄ 0 0 → r₅ ≡ drop 1 r₄ → EachPut rules m r₅ a₅ a₆ r₆ → AllPut exprs_bytes exprs_fit (exprs_line (codes "over")) 1 r₆ a₆ a₇ r₇ →
     AllPut exprs_bytes exprs_fit (exprs_line (codes "gain")) 1 r₇ a₇ a₈ r₈ → (g : Game) → bs ≡ game_bytes g → fits_bytes g ≡ true → Wrote a₀ (printed g) a₈
-unfolding game_bytes fits_bytes
+unfolding game_bytes
 game_put {a₀ = a₀} {a₈ = a₈} v₁ v₂ v₅ is₁ on₁ h₁ h₂ h₃ is₂ on₂ h₄ h₅ is₅ on₅ h₆ h₇ h₈ g e fits =
     let p = g.players in
     let n = length g.start in
     let m = length g.rules in
-    let f = and_parts (ltb p 256 && (ltb n 65536 && all_below 65536 g.start)) ((ltb m 256 && rules_fit g.rules) && (expr_fits g.terminal && expr_fits g.payoff)) fits in
-    let f₁ = and_parts (ltb p 256) (ltb n 65536 && all_below 65536 g.start) f.0 in
-    let f₂ = and_parts (ltb n 65536) (all_below 65536 g.start) f₁.1 in
-    let f₃ = and_parts (ltb m 256 && rules_fit g.rules) (expr_fits g.terminal && expr_fits g.payoff) f.1 in
-    let f₄ = and_parts (ltb m 256) (rules_fit g.rules) f₃.0 in
-    let f₅ = and_parts (expr_fits g.terminal) (expr_fits g.payoff) f₃.1 in
-    let players : v₁ ≡ p = is₁ ∙ byte_at p _ (ltb-true p 256 f₁.0) e in
+    let f = game_parts g fits in
+    let players : v₁ ≡ p = is₁ ∙ byte_at p _ f.players e in
     let b₁ = rest_at 1 (number_bytes 1 p) on₁ e (length_bytes 1 p) in
-    let cells : v₂ ≡ n = is₂ ∙ two_at n _ (ltb-true n 65536 f₂.0) b₁ in
-    let w₄ = h₄ g.start _ (rest_at 2 (number_bytes 2 n) on₂ b₁ (length_bytes 2 n)) f₂.1 (sym cells) in
-    let rules : v₅ ≡ m = is₅ ∙ byte_at m _ (ltb-true m 256 f₄.0) w₄.next in
-    let w₆ = h₆ g.rules _ (rest_at 1 (number_bytes 1 m) on₅ w₄.next (length_bytes 1 m)) f₄.1 (sym rules) in
-    let w₇ = alone (codes "over") g.terminal _ h₇ w₆.next f₅.0 in
-    let w₈ = alone (codes "gain") g.payoff [] h₈ (w₇.next ∙ sym (append-nil (expr_bytes g.payoff))) f₅.1 in
+    let cells : v₂ ≡ n = is₂ ∙ two_at n _ f.size b₁ in
+    let w₄ = h₄ g.start _ (rest_at 2 (number_bytes 2 n) on₂ b₁ (length_bytes 2 n)) f.start (sym cells) in
+    let rules : v₅ ≡ m = is₅ ∙ byte_at m _ f.count w₄.next in
+    let w₆ = h₆ g.rules _ (rest_at 1 (number_bytes 1 m) on₅ w₄.next (length_bytes 1 m)) f.rules (sym rules) in
+    let w₇ = alone (codes "over") g.terminal _ h₇ w₆.next f.terminal in
+    let w₈ = alone (codes "gain") g.payoff [] h₈ (w₇.next ∙ sym (append-nil (expr_bytes g.payoff))) f.payoff in
     subst (λ x. Wrote a₀ x a₈) (game_text g v₁ players)
     (join h₁ (join h₂ (join h₃ (join w₄.wrote (join h₅ (join w₆.wrote (join w₇.wrote w₈.wrote)))))))

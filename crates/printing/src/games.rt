@@ -74,6 +74,7 @@ fn put_head<'g>(writer: &mut Writer<'_>, game: &'g [u8]) -> (usize, &'g [u8])
 }
 
 // So many expressions, by the count of those still to come: however deep they are nested, nothing is kept of them.
+// An expression has a byte at least, so where more are to come than there are bytes, these are no game.
 fn put_exprs<'g>(writer: &mut Writer<'_>, game: &'g [u8], count: usize) -> &'g [u8]
     ensures { AllPut exprs_bytes exprs_fit exprs_text count game.now writer.old writer.new result.now }
 {
