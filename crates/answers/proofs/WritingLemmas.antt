@@ -1,41 +1,40 @@
 -- What is written in parts is the whole.
-use Rattle.std.proofs.Common.{◌≡◌, ℕ, ◌+◌, ◌*◌, ◌≤◌, List, [], ◌∷◌, ◌++◌, length, set, sym, refl, ap, ◌∙◌, arith, length-append, length-set}
+use Rattle.std.proofs.Common.{◌≡◌, ℕ, ◌+◌, ◌*◌, ◌<◌, ◌≤◌, List, [], ◌∷◌, ◌++◌, length, set, Some, None, sym, refl, ap, ◌∙◌, arith, length-append, length-set}
 use Rattle.std.proofs.lemmas.List.{append_assoc}
 use Rattle.wire.specs.Numbers.{number_bytes}
-use Rattle.wire.specs.Fields.{fields_bytes, written}
+use Rattle.wire.specs.Fields.{fields_bytes, written, room}
 use Rattle.wire.proofs.FieldLists.{length_fields_bytes, fields_append}
-use Rattle.wire.proofs.Writing.{length_written, written_before, fields_then, first_field, then_field, then_fields, after_kind}
+use Rattle.wire.proofs.Writing.{written_none, length_written, written_before, fields_then, no_room, room_for, first_field, then_field, then_fields, after_kind}
 use Rattle.rules.specs.declared.Move.{Move}
 use Rattle.answers.specs.Answers.{moves_fields, answer_kind, answer_fields, answer_bytes}
 use Rattle.answers.specs.Writing.{list_head, moves_bytes, ListInParts}
 use Rattle.answers.proofs.AnswerBytes.{length_moves}
 
--- the writers' bytes: a kind and one number, a kind and two, three numbers, and a position
+-- a kind and numbers, for which there is no room, or room
+module _ (k : ℕ) (ns old : List ℕ) where
+  pub none_written : length old < 1 + 4 * length ns → (None ≡ room 0 (k ∷ fields_bytes ns) old) × (old ≡ written 0 (k ∷ fields_bytes ns) old)
+  none_written h =
+      let short : length old < 0 + length (k ∷ fields_bytes ns) = omega (arith, length_fields_bytes ns) in
+      (no_room 0 (k ∷ fields_bytes ns) old short, sym (written_none 0 (k ∷ fields_bytes ns) old short))
+
+  pub all_written :
+      {new : List ℕ} → 1 + 4 * length ns ≤ length old → new ≡ written 1 (fields_bytes ns) (set old 0 k)
+      → (Some (1 + 4 * length ns) ≡ room 0 (k ∷ fields_bytes ns) old) × (new ≡ written 0 (k ∷ fields_bytes ns) old)
+  all_written h e = (room_for 0 (1 + 4 * length ns) (k ∷ fields_bytes ns) old (omega (arith, length_fields_bytes ns)) (omega arith), after_kind old k ns e h)
+
+-- a kind and one number, put by itself
 pub one_written :
     (old new : List ℕ) (k n : ℕ) → 5 ≤ length old → new ≡ written 1 (number_bytes 4 n) (set old 0 k) → new ≡ written 0 (k ∷ fields_bytes (n ∷ [])) old
 one_written old new k n fits e = after_kind old k (n ∷ []) (first_field (set old 0 k) 1 n e) fits
 
-pub two_written :
-    (old mid new : List ℕ) (k n m : ℕ) → 9 ≤ length old → mid ≡ written 1 (number_bytes 4 n) (set old 0 k) → new ≡ written 5 (number_bytes 4 m) mid
-    → new ≡ written 0 (k ∷ fields_bytes (n ∷ m ∷ [])) old
-two_written old mid new k n m fits a b =
-    after_kind old k (n ∷ m ∷ [])
-    (then_field (set old 0 k) 1 5 (n ∷ []) (first_field (set old 0 k) 1 n a) refl m b (omega (arith, length-set old 0 k))) fits
-
-pub three_written :
-    (old first second new : List ℕ) (i x y z : ℕ) → i + 12 ≤ length old → first ≡ written i (number_bytes 4 x) old
-    → second ≡ written (i + 4) (number_bytes 4 y) first → new ≡ written (i + 8) (number_bytes 4 z) second
-    → new ≡ written i (fields_bytes (x ∷ y ∷ z ∷ [])) old
-three_written old first second new i x y z fits a b c =
-    then_field old i (i + 8) (x ∷ y ∷ []) (then_field old i (i + 4) (x ∷ []) (first_field old i x a) refl y b (omega arith)) refl z c (omega arith)
-
+-- a position
 pub shown_written :
-    (old a b c d e new cells clocks : List ℕ) (k t u : ℕ) → 17 + 4 * length cells + 4 * length clocks ≤ length old
+    (old a b d e new cells clocks : List ℕ) (k t u : ℕ) → 17 + 4 * length cells + 4 * length clocks ≤ length old
     → a ≡ written 1 (number_bytes 4 (length cells)) (set old 0 k) → b ≡ written 5 (fields_bytes cells) a
-    → c ≡ written (5 + 4 * length cells) (number_bytes 4 t) b → d ≡ written (5 + 4 * length cells + 4) (number_bytes 4 u) c
+    → d ≡ written (5 + 4 * length cells) (fields_bytes (t ∷ u ∷ [])) b
     → e ≡ written (5 + 4 * length cells + 8) (number_bytes 4 (length clocks)) d → new ≡ written (5 + 4 * length cells + 12) (fields_bytes clocks) e
     → new ≡ written 0 (k ∷ fields_bytes (length cells ∷ (cells ++ (t ∷ u ∷ length clocks ∷ clocks)))) old
-shown_written old a b c d e new cells clocks k t u fits ea eb ec ed ee en =
+shown_written old a b d e new cells clocks k t u fits ea eb ed ee en =
     let n : ℕ = length cells in
     let three : List ℕ = t ∷ u ∷ length clocks ∷ [] in
     let base : List ℕ = set old 0 k in
@@ -43,9 +42,10 @@ shown_written old a b c d e new cells clocks k t u fits ea eb ec ed ee en =
     let with-cells : b ≡ written 1 (fields_bytes (n ∷ cells)) base =
     then_fields base 1 5 (n ∷ []) (first_field base 1 n ea) refl cells eb (omega arith) in
     let long : length b ≡ length base = ap length with-cells ∙ length_written 1 (fields_bytes (n ∷ cells)) base in
+    let count : e ≡ written (5 + 4 * n) (fields_bytes three) b =
+    then_field b (5 + 4 * n) (5 + 4 * n + 8) (t ∷ u ∷ []) ed refl (length clocks) ee (omega arith) in
     let with-three : e ≡ written 1 (fields_bytes ((n ∷ cells) ++ three)) base =
-    then_fields base 1 (5 + 4 * n) (n ∷ cells) with-cells (omega arith) three
-    (three_written b c d e (5 + 4 * n) t u (length clocks) (omega arith) ec ed ee) (omega arith) in
+    then_fields base 1 (5 + 4 * n) (n ∷ cells) with-cells (omega arith) three count (omega arith) in
     let with-clocks : new ≡ written 1 (fields_bytes (((n ∷ cells) ++ three) ++ clocks)) base =
     then_fields base 1 (5 + 4 * n + 12) ((n ∷ cells) ++ three) with-three (omega (arith, length-append cells three)) clocks en (omega arith) in
     let joined : ((n ∷ cells) ++ three) ++ clocks ≡ n ∷ (cells ++ (t ∷ u ∷ length clocks ∷ clocks)) = append_assoc (n ∷ cells) three clocks in

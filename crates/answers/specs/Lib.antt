@@ -1,4 +1,5 @@
 pub mod Answers
+pub mod Kinds
 pub mod Size
 pub mod Writing
 pub mod Reading

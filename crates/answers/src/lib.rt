@@ -1,6 +1,7 @@
 // Answers as bytes: written, and read.
 #![tactic(auto)]
 
+mod kinds;
 mod reading;
 mod writing;
 
@@ -8,31 +9,24 @@ ghost use Rattle.answers.specs.Answers.{AnswerReadsBack, AnswerWritesBack};
 ghost use Rattle.answers.specs.Writing.{ListInParts};
 ghost use Rattle.answers.specs.Size.{AnswersFit, AllAnswersFit};
 
-pub use reading::read_answer;
+pub use reading::{read_answer, read_move};
 use rules::Refusal;
 pub use writing::{
     write_forced, write_list_head, write_move, write_number, write_refusal, write_shown,
 };
 
-// Where numbers or moves stand in bytes: the place of the first, and how many they are.
+// An answer that was read from bytes: numbers have four of them each, moves twelve.
 #[derive(Clone, Copy)]
-pub struct Row {
-    pub at: usize,
-    pub count: usize,
-}
-
-// An answer that was read from bytes. Cells and clocks have four bytes each, moves twelve.
-#[derive(Clone, Copy)]
-pub enum Reply {
+pub enum Reply<'a> {
     Refused(Refusal),
     Number(u32),
     Shown {
-        cells: Row,
+        cells: &'a [[u8; 4]],
         turn: u32,
         end: u32,
-        clocks: Row,
+        clocks: &'a [[u8; 4]],
     },
-    Listed(Row),
+    Listed(&'a [[u8; 12]]),
     Forced(u32),
 }
 

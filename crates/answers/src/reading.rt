@@ -1,77 +1,66 @@
 // Answers read from bytes.
-ghost use Rattle.std.specs.Prelude.{◌≡◌, if◌then◌else◌, Some, None, nat_eq};
+ghost use Rattle.std.specs.Prelude.{◌≡◌};
 ghost use Rattle.answers.specs.Answers.{parse_answer, parse_as};
-ghost use Rattle.answers.specs.Reading.{answer_read, InsideRead};
+ghost use Rattle.answers.specs.Reading.{answer_read, move_in};
 
-use super::{Reply, Row};
-use rules::Refusal;
+use super::Reply;
+use super::kinds::AnswerKind;
+use rules::{Move, Refusal};
 use wire::field_at;
 
-// A reply, if there are just as many bytes as it wants.
-fn whole(count: usize, wanted: usize, reply: Reply) -> Option<Reply>
-    ensures { result ≡ (if nat_eq count wanted then Some reply else None) }
-{
-    if count == wanted { Some(reply) } else { None }
-}
-
 // A position.
-fn read_shown(bytes: &[u8]) -> Option<Reply>
-    ensures answer { answer_read bytes.now result ≡ parse_as 2 bytes.now }
-    ensures inside { InsideRead bytes.now result }
+fn read_shown(bytes: &[u8]) -> Option<Reply<'_>>
+    ensures { answer_read result ≡ parse_as 2 bytes.now }
 {
-    let cells = field_at(bytes, 1) as usize;
-    let after = 5 + 4 * cells;
-    let turn = field_at(bytes, after);
-    let end = field_at(bytes, after + 4);
+    let after = 5 + 4 * field_at(bytes, 1) as usize;
     let clocks = field_at(bytes, after + 8) as usize;
-    let reply = Reply::Shown {
-        cells: Row {
-            at: 5,
-            count: cells,
-        },
-        turn,
-        end,
-        clocks: Row {
-            at: after + 12,
-            count: clocks,
-        },
-    };
-    whole(bytes.len(), after + 12 + 4 * clocks, reply)
+    if bytes.len() != after + 12 + 4 * clocks {
+        return None;
+    }
+    Some(Reply::Shown {
+        cells: bytes[5..after].as_chunks().0,
+        turn: field_at(bytes, after),
+        end: field_at(bytes, after + 4),
+        clocks: bytes[after + 12..].as_chunks().0,
+    })
 }
 
 // A list of moves.
-fn read_list(bytes: &[u8]) -> Option<Reply>
-    ensures answer { answer_read bytes.now result ≡ parse_as 3 bytes.now }
-    ensures inside { InsideRead bytes.now result }
+fn read_list(bytes: &[u8]) -> Option<Reply<'_>>
+    ensures { answer_read result ≡ parse_as 3 bytes.now }
 {
-    let count = field_at(bytes, 1) as usize;
-    whole(
-        bytes.len(),
-        5 + 12 * count,
-        Reply::Listed(Row { at: 5, count }),
-    )
+    if bytes.len() != 5 + 12 * field_at(bytes, 1) as usize {
+        return None;
+    }
+    Some(Reply::Listed(bytes[5..].as_chunks().0))
+}
+
+// A move of a list.
+pub fn read_move(bytes: &[u8; 12]) -> Move
+    ensures { result ≡ move_in bytes.now }
+{
+    Move {
+        rule: field_at(bytes, 0),
+        first: field_at(bytes, 4),
+        second: field_at(bytes, 8),
+    }
 }
 
 // The answer that bytes are, if they are one.
-pub fn read_answer(bytes: &[u8]) -> Option<Reply>
-    ensures answer { answer_read bytes.now result ≡ parse_answer bytes.now }
-    ensures inside { InsideRead bytes.now result }
+pub fn read_answer(bytes: &[u8]) -> Option<Reply<'_>>
+    ensures { answer_read result ≡ parse_answer bytes.now }
 {
-    if bytes.len() == 0 {
-        return None;
-    }
-    match bytes[0] {
-        0 => {
+    match AnswerKind::try_from(*bytes.first()?).ok()? {
+        AnswerKind::Refused => {
             let refusal = Refusal {
                 number: field_at(bytes, 1),
                 place: field_at(bytes, 5),
             };
-            whole(bytes.len(), 9, Reply::Refused(refusal))
+            (bytes.len() == 9).then_some(Reply::Refused(refusal))
         }
-        1 => whole(bytes.len(), 5, Reply::Number(field_at(bytes, 1))),
-        2 => read_shown(bytes),
-        3 => read_list(bytes),
-        4 => whole(bytes.len(), 5, Reply::Forced(field_at(bytes, 1))),
-        _ => None,
+        AnswerKind::Number => (bytes.len() == 5).then_some(Reply::Number(field_at(bytes, 1))),
+        AnswerKind::Shown => read_shown(bytes),
+        AnswerKind::Listed => read_list(bytes),
+        AnswerKind::Forced => (bytes.len() == 5).then_some(Reply::Forced(field_at(bytes, 1))),
     }
 }

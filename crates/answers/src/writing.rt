@@ -1,38 +1,40 @@
 // Answers written as bytes. Each writer says how many bytes it wrote; where they have no room it writes none and says None.
-ghost use Rattle.std.specs.Prelude.{◌≡◌, ◌+◌, ◌*◌, ◌<◌, ◌≤◌, [], ◌∷◌, MatchOption};
+ghost use Rattle.std.specs.Prelude.{◌≡◌, ◌+◌, ◌*◌, ◌<◌, ◌≤◌, ◌∷◌, MatchOption};
 ghost use Rattle.rules.specs.Calls.{refused, number, shown, forced};
 ghost use Rattle.wire.specs.Fields.{fields_bytes, written, room};
 ghost use Rattle.answers.specs.Answers.{answer_bytes};
+ghost use Rattle.answers.specs.Kinds.{kind_number};
 ghost use Rattle.answers.specs.Writing.{list_head, move_bytes};
 
+use super::kinds::AnswerKind;
 use rules::{Move, Refusal};
 use wire::{put_field, put_fields};
 
-// A kind and one number.
-fn write_one(answer: &mut [u8], kind: u8, n: u32) -> Option<usize>
-    ensures size { result ≡ room 0 (kind ∷ fields_bytes (n ∷ [])) answer.old }
-    ensures bytes { answer.new ≡ written 0 (kind ∷ fields_bytes (n ∷ [])) answer.old }
+// A kind and numbers.
+fn write_numbers(answer: &mut [u8], kind: AnswerKind, numbers: &[u32]) -> Option<usize>
+    ensures size { result ≡ room 0 (kind_number kind ∷ fields_bytes numbers.now) answer.old }
+    ensures bytes { answer.new ≡ written 0 (kind_number kind ∷ fields_bytes numbers.now) answer.old }
 {
-    if answer.len() < 5 {
+    if answer.len().checked_sub(1)? / 4 < numbers.len() {
         return None;
     }
-    answer[0] = kind;
-    put_field(answer, 1, n as usize);
-    Some(5)
+    answer[0] = kind.into();
+    put_fields(answer, 1, numbers);
+    Some(1 + 4 * numbers.len())
 }
 
 pub fn write_number(answer: &mut [u8], n: u32) -> Option<usize>
     ensures size { result ≡ room 0 (answer_bytes (number n)) answer.old }
     ensures bytes { answer.new ≡ written 0 (answer_bytes (number n)) answer.old }
 {
-    write_one(answer, 1, n)
+    write_numbers(answer, AnswerKind::Number, &[n])
 }
 
 pub fn write_forced(answer: &mut [u8], n: u32) -> Option<usize>
     ensures size { result ≡ room 0 (answer_bytes (forced n)) answer.old }
     ensures bytes { answer.new ≡ written 0 (answer_bytes (forced n)) answer.old }
 {
-    write_one(answer, 4, n)
+    write_numbers(answer, AnswerKind::Forced, &[n])
 }
 
 // What stands before the moves of a list: its kind, and how many they are.
@@ -40,7 +42,7 @@ pub fn write_list_head(answer: &mut [u8], count: u32) -> Option<usize>
     ensures size { result ≡ room 0 (list_head count) answer.old }
     ensures bytes { answer.new ≡ written 0 (list_head count) answer.old }
 {
-    write_one(answer, 3, count)
+    write_numbers(answer, AnswerKind::Listed, &[count])
 }
 
 // A move of a list, from a place on: the first at 5, and 12 bytes each.
@@ -51,9 +53,7 @@ pub fn write_move(answer: &mut [u8], at: usize, played: Move) -> Option<usize>
     if answer.len().saturating_sub(at) < 12 {
         return None;
     }
-    put_field(answer, at, played.rule as usize);
-    put_field(answer, at + 4, played.first as usize);
-    put_field(answer, at + 8, played.second as usize);
+    put_fields(answer, at, &[played.rule, played.first, played.second]);
     Some(12)
 }
 
@@ -61,29 +61,19 @@ pub fn write_refusal(answer: &mut [u8], refusal: Refusal) -> Option<usize>
     ensures size { result ≡ room 0 (answer_bytes (refused refusal)) answer.old }
     ensures bytes { answer.new ≡ written 0 (answer_bytes (refused refusal)) answer.old }
 {
-    if answer.len() < 9 {
-        return None;
-    }
-    answer[0] = 0;
-    put_field(answer, 1, refusal.number as usize);
-    put_field(answer, 5, refusal.place as usize);
-    Some(9)
+    write_numbers(
+        answer,
+        AnswerKind::Refused,
+        &[refusal.number, refusal.place],
+    )
 }
 
 // How many bytes a position has, if they have room.
 fn shown_size(cells: usize, clocks: usize, most: usize) -> Option<usize>
     ensures { MatchOption result (most < 17 + 4 * cells + 4 * clocks) (λ n. (n ≡ 17 + 4 * cells + 4 * clocks) × (n ≤ most)) }
 {
-    if most < 17 {
-        return None;
-    }
-    let numbers = (most - 17) / 4;
-    if cells > numbers {
-        return None;
-    }
-    if clocks > numbers - cells {
-        return None;
-    }
+    let numbers = most.checked_sub(17)? / 4;
+    numbers.checked_sub(cells)?.checked_sub(clocks)?;
     Some(17 + 4 * cells + 4 * clocks)
 }
 
@@ -98,15 +88,12 @@ pub fn write_shown(
     ensures size { result ≡ room 0 (answer_bytes (shown cells.now turn end clocks.now)) answer.old }
     ensures bytes { answer.new ≡ written 0 (answer_bytes (shown cells.now turn end clocks.now)) answer.old }
 {
-    let Some(size) = shown_size(cells.len(), clocks.len(), answer.len()) else {
-        return None;
-    };
+    let size = shown_size(cells.len(), clocks.len(), answer.len())?;
     let after = 5 + 4 * cells.len();
-    answer[0] = 2;
+    answer[0] = AnswerKind::Shown.into();
     put_field(answer, 1, cells.len());
     put_fields(answer, 5, cells);
-    put_field(answer, after, turn as usize);
-    put_field(answer, after + 4, end as usize);
+    put_fields(answer, after, &[turn, end]);
     put_field(answer, after + 8, clocks.len());
     put_fields(answer, after + 12, clocks);
     Some(size)

@@ -1,140 +1,127 @@
 -- The parts of an answer's line, put one after the other.
-use Rattle.std.proofs.Common.{◌≡◌, ℕ, zero, suc, ◌+◌, ◌-◌, ◌<◌, ◌≤◌, List, [], ◌∷◌, ◌++◌, length, Some, codes, decimal, Option, sym, refl, ap, ◌∙◌, subst, append-nil, arith}
+use Rattle.std.proofs.Common.{◌≡◌, ℕ, ◌+◌, ◌<◌, ◌≤◌, List, [], ◌∷◌, ◌++◌, length, get_or, take, Some, codes, decimal, Option, sym, refl, ap, ◌∙◌, subst, append-nil, append_assoc, arith}
+use Rattle.std.specs.Int.{w32, from_le_bytes}
 use Rattle.std.proofs.lemmas.Bool.{ne_eqb}
+use Rattle.std.proofs.lemmas.List.{take_more, map-append, nil_from_length}
 use Rattle.rules.specs.Calls.{Answer, refused, number, shown, listed, forced}
 use Rattle.rules.specs.declared.Refusal.{Refusal}
 use Rattle.rules.specs.declared.Move.{Move}
-use Rattle.wire.specs.Fields.{field_at, fields_at}
 use Rattle.answers.specs.declared.Reply.{Reply}
-use Rattle.answers.specs.Answers.{moves_at}
-use Rattle.answers.specs.Reading.{answer_of}
+use Rattle.answers.specs.Reading.{numbers_in, move_in, moves_in, answer_of}
 use Rattle.game_text.specs.Text.{number_pieces}
+use Rattle.printing.specs.declared.writer.Writer.{Writer}
 use Rattle.printing.specs.Games.{numbers_text, spaced}
 use Rattle.printing.specs.Answers.{end_text, clocks_text, move_text, later_moves, moves_text, answer_text, answer_size, answer_into}
-use Rattle.printing.specs.Puts.{Puts}
+use Rattle.printing.specs.Puts.{Wrote}
 use Rattle.printing.proofs.Putting.{join, nothing, filled_by, size_told}
 
--- once what is left is put, all is
-abbrev pub Onward : ℕ → List ℕ → List ℕ → ℕ → List ℕ → List ℕ → Type 0
-Onward at left now from all old = (j : ℕ) (new : List ℕ) → Puts at left now j new → Puts from all old j new
-
-pub nothing_left : {at from : ℕ} {left now all old : List ℕ} → Onward at left now from all old → left ≡ [] → Puts from all old at now
-nothing_left {at} {from} {left} {now} on none = on at now (subst (λ l. Puts at l now at now) (sym none) (nothing at now))
-
 -- one number more
-pub field_more :
-    (bs : List ℕ) (i n v : ℕ) (at : ℕ) (now : List ℕ) (p : ℕ) (mid : List ℕ) (from : ℕ) (all old : List ℕ) → 0 < n → v ≡ field_at bs i →
-    Puts at (32 ∷ decimal v) now p mid → Onward at (numbers_text (fields_at bs i n)) now from all old →
-    Onward p (numbers_text (fields_at bs (i + 4) (n - 1))) mid from all old
-unfolding fields_at number_pieces spaced
-field_more bs i zero v at now p mid from all old some is h on j new k = absurd (omega arith)
-field_more bs i (suc n) v at now p mid from all old some is h on j new k =
-    let same : suc n - 1 ≡ n = omega arith in
-    on j new
-    (subst (λ x. Puts at ((32 ∷ decimal x) ++ numbers_text (fields_at bs (i + 4) n)) now j new) is
-    (join h (subst (λ m. Puts p (numbers_text (fields_at bs (i + 4) m)) mid j new) same k)))
+numbers_push : (ns : List ℕ) (n : ℕ) → numbers_text (ns ++ (n ∷ [])) ≡ numbers_text ns ++ (32 ∷ decimal n)
+unfolding number_pieces spaced
+numbers_push [] n = ap (λ x. 32 ∷ x) (append-nil (decimal n))
+numbers_push (m ∷ ns) n = ap (λ x. 32 ∷ (decimal m ++ x)) (numbers_push ns n) ∙ ap (λ x. 32 ∷ x) (sym (append_assoc (decimal m) (numbers_text ns) (32 ∷ decimal n)))
 
-pub no_fields : (bs : List ℕ) (i n : ℕ) → n ≤ 0 → numbers_text (fields_at bs i n) ≡ []
-unfolding fields_at number_pieces spaced
-no_fields bs i zero l = refl
-no_fields bs i (suc n) l = absurd (omega arith)
+pub no_numbers : (a : Writer) → Wrote a (numbers_text []) a
+unfolding number_pieces spaced
+no_numbers a = nothing a
+
+pub number_more :
+    {a b c : Writer} (cs : List (List ℕ)) (k : ℕ) → k < length cs → Wrote a (numbers_text (numbers_in (take k cs))) b →
+    Wrote b (32 ∷ decimal (from_le_bytes w32 (get_or cs k []))) c → Wrote a (numbers_text (numbers_in (take (k + 1) cs))) c
+number_more cs k h f g =
+    rw (take_more cs k [] h, map-append (from_le_bytes w32) (take k cs), numbers_push (numbers_in (take k cs))) (join f g)
 
 -- a move
 pub move_put :
-    (at : ℕ) (old : List ℕ) {a b c p q r : ℕ} {m n new : List ℕ} (v : Move) → a ≡ v.rule → b ≡ v.first → c ≡ v.second → Puts at (decimal a) old p m →
-    Puts p (32 ∷ decimal b) m q n → Puts q (32 ∷ decimal c) n r new → Puts at (move_text v) old r new
+    {a b c d : Writer} (v : Move) → Wrote a (decimal v.rule) b → Wrote b (32 ∷ decimal v.first) c → Wrote c (32 ∷ decimal v.second) d → Wrote a (move_text v) d
 unfolding move_text number_pieces spaced
-move_put at old {a} {b} {c} {p} {q} {r} {m} {n} {new} v x y z h k l =
-    subst (λ t. Puts at t old r new)
-    ((λ i. decimal (x i) ++ ((32 ∷ decimal (y i)) ++ (32 ∷ decimal (z i))))
-    ∙ ap (λ t. decimal v.rule ++ ((32 ∷ decimal v.first) ++ (32 ∷ t))) (sym (append-nil (decimal v.second))))
-    (join h (join k l))
+move_put {a} {d = d} v h k l =
+    subst (λ t. Wrote a (decimal v.rule ++ ((32 ∷ decimal v.first) ++ (32 ∷ t))) d) (sym (append-nil (decimal v.second))) (join h (join k l))
 
-abbrev pub move_at : List ℕ → ℕ → Move
-move_at bs i = record { rule = field_at bs i; first = field_at bs (i + 4); second = field_at bs (i + 8) }
+-- the moves after the first: one more
+later_push : (vs : List Move) (v : Move) → later_moves (vs ++ (v ∷ [])) ≡ later_moves vs ++ (codes ", " ++ move_text v)
+unfolding later_moves
+later_push [] v = ap (λ t. codes ", " ++ t) (append-nil (move_text v))
+later_push (u ∷ vs) v =
+    ap (λ t. codes ", " ++ (move_text u ++ t)) (later_push vs v)
+    ∙ ap (λ t. codes ", " ++ t) (sym (append_assoc (move_text u) (later_moves vs) (codes ", " ++ move_text v)))
 
--- one move more
+pub no_later : (a : Writer) → Wrote a (later_moves []) a
+unfolding later_moves
+no_later a = nothing a
+
 pub move_more :
-    (bs : List ℕ) (i n : ℕ) (at : ℕ) (now : List ℕ) (p : ℕ) (m : List ℕ) (q : ℕ) (mid : List ℕ) (from : ℕ) (all old : List ℕ) → 0 < n →
-    Puts at (codes ", ") now p m → Puts p (move_text (move_at bs i)) m q mid → Onward at (later_moves (moves_at bs i n)) now from all old →
-    Onward q (later_moves (moves_at bs (i + 12) (n - 1))) mid from all old
-unfolding moves_at later_moves
-move_more bs i zero at now p m q mid from all old some h k on j new l = absurd (omega arith)
-move_more bs i (suc n) at now p m q mid from all old some h k on j new l =
-    let same : suc n - 1 ≡ n = omega arith in
-    on j new (join h (join k (subst (λ x. Puts q (later_moves (moves_at bs (i + 12) x)) mid j new) same l)))
+    {a b c d : Writer} (cs : List (List ℕ)) (k : ℕ) → k < length cs → Wrote a (later_moves (moves_in (take k cs))) b → Wrote b (codes ", ") c →
+    Wrote c (move_text (move_in (get_or cs k []))) d → Wrote a (later_moves (moves_in (take (k + 1) cs))) d
+move_more cs k h f g m = rw (take_more cs k [] h, map-append move_in (take k cs), later_push (moves_in (take k cs))) (join f (join g m))
 
-pub no_moves : (bs : List ℕ) (i n : ℕ) → n ≤ 0 → later_moves (moves_at bs i n) ≡ []
-unfolding moves_at later_moves
-no_moves bs i zero l = refl
-no_moves bs i (suc n) l = absurd (omega arith)
+-- all of them, and none
+pub moves_put :
+    {a b c : Writer} {cs : List (List ℕ)} (m : List ℕ) (ms : List (List ℕ)) → cs ≡ m ∷ ms → Wrote a (move_text (move_in m)) b → Wrote b (later_moves (moves_in ms)) c →
+    Wrote a (moves_text (moves_in cs)) c
+unfolding moves_text
+moves_put m ms e h k = rw e (join h k)
 
--- the first move, and none
-pub first_move :
-    (bs : List ℕ) (i n at : ℕ) (old : List ℕ) (p : ℕ) (mid : List ℕ) → (n ≡ 0 → ⊥) → Puts at (move_text (move_at bs i)) old p mid →
-    Onward p (later_moves (moves_at bs (i + 12) (n - 1))) mid at (moves_text (moves_at bs i n)) old
-unfolding moves_at moves_text
-first_move bs i zero at old p mid some h j new k = absurd (some refl)
-first_move bs i (suc n) at old p mid some h j new k =
-    let same : suc n - 1 ≡ n = omega arith in join h (subst (λ x. Puts p (later_moves (moves_at bs (i + 12) x)) mid j new) same k)
-
-pub none_put : (bs : List ℕ) (i n at : ℕ) (old : List ℕ) (p : ℕ) (new : List ℕ) → n ≡ 0 → Puts at (codes "none") old p new → Puts at (moves_text (moves_at bs i n)) old p new
-unfolding moves_at moves_text
-none_put bs i zero at old p new z h = h
-none_put bs i (suc n) at old p new z h = absurd (omega arith)
+pub none_put : {a b : Writer} (cs : List (List ℕ)) → length cs ≡ 0 → Wrote a (codes "none") b → Wrote a (moves_text (moves_in cs)) b
+unfolding moves_text
+none_put cs z h = rw (nil_from_length cs z) h
 
 -- whether a game goes on
-pub goes_on_put : {at p : ℕ} {old new : List ℕ} (e : ℕ) → e ≡ 0 → Puts at (codes "goes on") old p new → Puts at (end_text e) old p new
+pub goes_on_put : {a b : Writer} (e : ℕ) → e ≡ 0 → Wrote a (codes "goes on") b → Wrote a (end_text e) b
 unfolding end_text
 goes_on_put e z h = rw z h
 
-pub by_time_put : {at p : ℕ} {old new : List ℕ} (e : ℕ) → e ≡ 2 → Puts at (codes "over by time") old p new → Puts at (end_text e) old p new
+pub by_time_put : {a b : Writer} (e : ℕ) → e ≡ 2 → Wrote a (codes "over by time") b → Wrote a (end_text e) b
 unfolding end_text
 by_time_put e z h = rw z h
 
-pub over_put : {at p : ℕ} {old new : List ℕ} (e : ℕ) → (e ≡ 0 → ⊥) → (e ≡ 2 → ⊥) → Puts at (codes "over") old p new → Puts at (end_text e) old p new
+pub over_put : {a b : Writer} (e : ℕ) → (e ≡ 0 → ⊥) → (e ≡ 2 → ⊥) → Wrote a (codes "over") b → Wrote a (end_text e) b
 unfolding end_text
 over_put e y z h = rw (ne_eqb e 0 y, ne_eqb e 2 z) h
 
 -- the clocks: none, or some
-pub no_clocks : (bs : List ℕ) (i n : ℕ) → n ≡ 0 → clocks_text (fields_at bs i n) ≡ []
-unfolding fields_at clocks_text
-no_clocks bs i zero z = refl
-no_clocks bs i (suc n) z = absurd (omega arith)
+pub no_clocks : (cs : List (List ℕ)) (a : Writer) → length cs ≡ 0 → Wrote a (clocks_text (numbers_in cs)) a
+unfolding clocks_text
+no_clocks cs a z = rw (nil_from_length cs z) (nothing a)
 
-pub some_clocks : (bs : List ℕ) (i n : ℕ) → (n ≡ 0 → ⊥) → clocks_text (fields_at bs i n) ≡ codes ", clocks" ++ numbers_text (fields_at bs i n)
-unfolding fields_at clocks_text
-some_clocks bs i zero z = absurd (z refl)
-some_clocks bs i (suc n) z = refl
+pub some_clocks :
+    (cs : List (List ℕ)) {a b c : Writer} → (length cs ≡ 0 → ⊥) → Wrote a (codes ", clocks") b → Wrote b (numbers_text (numbers_in cs)) c →
+    Wrote a (clocks_text (numbers_in cs)) c
+unfolding clocks_text
+some_clocks [] z h k = absurd (z refl)
+some_clocks (c ∷ cs) z h k = join h k
 
 -- a position without its clocks, and with them
-module _ {old : List ℕ} (cells : List ℕ) (t e : ℕ) (clocks : List ℕ) {p₁ p₂ p₃ p₄ p₅ p₆ : ℕ} {m₁ m₂ m₃ m₄ m₅ m₆ : List ℕ} (h₁ : Puts 0 (codes "cells") old p₁ m₁) (h₂ : Puts p₁ (numbers_text cells) m₁ p₂ m₂) (h₃ : Puts p₂ (codes ", turn ") m₂ p₃ m₃) (h₄ : Puts p₃ (decimal t) m₃ p₄ m₄) (h₅ : Puts p₄ (codes ", ") m₄ p₅ m₅) (h₆ : Puts p₅ (end_text e) m₅ p₆ m₆) where
-  pub shown_put : {p : ℕ} {new : List ℕ} → Puts p₆ (clocks_text clocks) m₆ p new → Puts 0 (answer_text (shown cells t e clocks)) old p new
-  unfolding answer_text
-  shown_put h = join h₁ (join h₂ (join h₃ (join h₄ (join h₅ (join h₆ h)))))
+pub shown_put :
+    {a₀ a₁ a₂ a₃ a₄ a₅ a₆ a₇ : Writer} (cells : List ℕ) (t e : ℕ) (clocks : List ℕ) → Wrote a₀ (codes "cells") a₁ → Wrote a₁ (numbers_text cells) a₂ →
+    Wrote a₂ (codes ", turn ") a₃ → Wrote a₃ (decimal t) a₄ → Wrote a₄ (codes ", ") a₅ → Wrote a₅ (end_text e) a₆ → Wrote a₆ (clocks_text clocks) a₇ →
+    Wrote a₀ (answer_text (shown cells t e clocks)) a₇
+unfolding answer_text
+shown_put cells t e clocks h₁ h₂ h₃ h₄ h₅ h₆ h = join h₁ (join h₂ (join h₃ (join h₄ (join h₅ (join h₆ h)))))
 
 pub refused_put :
-    {old new m₁ m₂ m₃ : List ℕ} {p₁ p₂ p₃ p : ℕ} (r : Refusal) → Puts 0 (codes "refused ") old p₁ m₁ → Puts p₁ (decimal r.number) m₁ p₂ m₂ →
-    Puts p₂ (codes " at ") m₂ p₃ m₃ → Puts p₃ (decimal r.place) m₃ p new → Puts 0 (answer_text (refused r)) old p new
+    {a b c d e : Writer} (r : Refusal) → Wrote a (codes "refused ") b → Wrote b (decimal r.number) c → Wrote c (codes " at ") d → Wrote d (decimal r.place) e →
+    Wrote a (answer_text (refused r)) e
 unfolding answer_text
 refused_put r h₁ h₂ h₃ h = join h₁ (join h₂ (join h₃ h))
 
-pub number_put : {old new : List ℕ} {p : ℕ} (n : ℕ) → Puts 0 (decimal n) old p new → (Puts 0 (answer_text (number n)) old p new) × (Puts 0 (answer_text (forced n)) old p new)
+pub number_put : {a b : Writer} (n : ℕ) → Wrote a (decimal n) b → (Wrote a (answer_text (number n)) b) × (Wrote a (answer_text (forced n)) b)
 unfolding answer_text
 number_put n h = (h, h)
 
-pub listed_put : {old new : List ℕ} {p : ℕ} (vs : List Move) → Puts 0 (moves_text vs) old p new → Puts 0 (answer_text (listed vs)) old p new
+pub listed_put : {a b : Writer} (vs : List Move) → Wrote a (moves_text vs) b → Wrote a (answer_text (listed vs)) b
 unfolding answer_text
 listed_put vs h = h
 
-pub reply_put : {old new : List ℕ} {p : ℕ} (bs : List ℕ) (r s : Reply) → r ≡ s → Puts 0 (answer_text (answer_of bs s)) old p new → Puts 0 (answer_text (answer_of bs r)) old p new
-reply_put {old} {new} {p} bs r s e h = subst (λ x. Puts 0 (answer_text (answer_of bs x)) old p new) (sym e) h
+pub reply_put : {a b : Writer} (r s : Reply) → r ≡ s → Wrote a (answer_text (answer_of s)) b → Wrote a (answer_text (answer_of r)) b
+reply_put {a} {b} r s e h = subst (λ x. Wrote a (answer_text (answer_of x)) b) (sym e) h
 
 -- what printing an answer's bytes answers
 pub answer_printed :
-    (o : Option Answer) (a : Answer) (old : List ℕ) (r : ℕ) (new : List ℕ) → Some a ≡ o → length old ≤ 18446744073709551615 →
-    length (answer_text a) ≤ 18446744073709551615 → Puts 0 (answer_text a) old r new → (Some r ≡ answer_size o) × (new ≡ answer_into o old)
-answer_printed o a old r new e l m h = (
-  ap Some (size_told (answer_text a) old r new h ∙ omega arith) ∙ ap answer_size e,
-  filled_by (answer_text a) old r new l h ∙ ap (λ x. answer_into x old) e,
+    (o : Option Answer) (x : Answer) {a b : Writer} → Some x ≡ o → a.at ≡ 0 → length a.out.now ≤ 18446744073709551615 → length (answer_text x) ≤ 18446744073709551615 →
+    Wrote a (answer_text x) b → (Some b.at ≡ answer_size o) × (b.out.now ≡ answer_into o a.out.now) × (b.out.ghost_name ≡ a.out.ghost_name)
+answer_printed o x {a} e start l m h = (
+  ap Some (size_told (answer_text x) start h ∙ omega arith) ∙ ap answer_size e,
+  filled_by (answer_text x) start h l ∙ ap (λ y. answer_into y a.out.now) e,
+  h.same_memory,
 )

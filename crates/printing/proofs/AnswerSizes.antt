@@ -8,6 +8,7 @@ use Rattle.rules.specs.Calls.{Answer, refused, number, shown, listed, forced}
 use Rattle.rules.specs.Bounds.{all_below}
 use Rattle.wire.proofs.FieldLists.{length_fields_bytes}
 use Rattle.answers.specs.Answers.{moves_fields, answer_fields, answer_bytes, fits_answer}
+use Rattle.answers.proofs.AnswerBytes.{length_moves}
 use Rattle.game_text.specs.Text.{number_pieces}
 use Rattle.printing.specs.Games.{numbers_text, spaced}
 use Rattle.printing.specs.Answers.{end_text, clocks_text, move_text, later_moves, moves_text, answer_text, AnswerTextFits}
@@ -71,11 +72,6 @@ moves_small [] h = omega arith
 moves_small (v ∷ vs) h =
     let p = move_small v (moves_fields vs) h in omega (arith, p.0, length-append (move_text v) (later_moves vs), later_small vs p.1)
 
-moves_long : (vs : List Move) → length (moves_fields vs) ≡ 3 * length vs
-unfolding moves_fields
-moves_long [] = refl
-moves_long (v ∷ vs) = omega (arith, moves_long vs)
-
 -- a line is at most so long, by how many numbers the answer has
 small : (a : Answer) → Fit (answer_fields a) → length (answer_text a) ≤ 12 * length (answer_fields a) + 8
 unfolding answer_fields answer_text
@@ -106,7 +102,7 @@ small (shown p t e cs) h =
       clocks_small cs l.1,
       length-append p (t ∷ e ∷ length cs ∷ cs),
     )
-small (listed vs) h = let p = fit_head (length vs) (moves_fields vs) h in omega (arith, moves_small vs p.1, moves_long vs)
+small (listed vs) h = let p = fit_head (length vs) (moves_fields vs) h in omega (arith, moves_small vs p.1, length_moves vs)
 small (forced n) h = omega (arith, decimal_small n (fit_head n [] h).0)
 
 pub text_fits : AnswerTextFits
@@ -123,7 +119,7 @@ few (shown p t e cs) h =
     let g = fit_parts p (t ∷ e ∷ length cs ∷ cs) f.1 in
     let k = fit_parts (t ∷ e ∷ []) (length cs ∷ cs) g.1 in
     omega (arith, f.0, (fit_head (length cs) cs k.1).0, length-append p (t ∷ e ∷ length cs ∷ cs))
-few (listed vs) h = omega (arith, (fit_head (length vs) (moves_fields vs) h).0, moves_long vs)
+few (listed vs) h = omega (arith, (fit_head (length vs) (moves_fields vs) h).0, length_moves vs)
 few (forced n) h = omega arith
 
 pub text_bounded : (a : Answer) → fits_answer a ≡ true → length (answer_text a) ≤ 18446744073709551615

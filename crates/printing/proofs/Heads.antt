@@ -1,6 +1,6 @@
 -- Expressions printed one after the other, by the count of those still to come.
-use Rattle.std.proofs.Common.{◌≡◌, ℕ, zero, suc, ◌+◌, ◌-◌, ◌%◌, ◌<◌, ◌≤◌, true, ◌&&◌, ◌⊎◌, List, [], ◌∷◌, ◌++◌, length, get_or, drop, decimal, sym, refl, ap, ◌∙◌, subst, inl, inr, append_assoc, append-nil, arith}
-use Rattle.std.proofs.lemmas.List.{length-append, length-drop, get_or_past, nil_from_length}
+use Rattle.std.proofs.Common.{◌≡◌, ℕ, ◌+◌, ◌-◌, ◌%◌, ◌<◌, ◌≤◌, true, ◌&&◌, ◌⊎◌, List, [], ◌∷◌, ◌++◌, length, get_or, drop, decimal, sym, refl, ap, ◌∙◌, subst, inl, inr, append_assoc, append-nil, arith}
+use Rattle.std.proofs.lemmas.List.{length-append, nil_from_length}
 use Rattle.std.proofs.lemmas.Bool.{and_parts, and_from, ltb-true, cases_eq}
 use Rattle.rules.specs.Rules.{Expr, Num, Cell, First, Second, Me, Add, Sub, Mul, Div, Rem, Lt, Eq, If}
 use Rattle.wire.specs.Exprs.{expr_bytes, expr_fits, kind_after}
@@ -9,13 +9,13 @@ use Rattle.wire.proofs.Numbers.{length_bytes}
 use Rattle.wire.specs.Fields.{field_at}
 use Rattle.text.specs.Grammar.{Piece, printed_piece}
 use Rattle.game_text.specs.Text.{expr_pieces}
-use Rattle.printing.specs.declared.games.Head.{Head}
+use Rattle.printing.specs.declared.writer.Writer.{Writer}
 use Rattle.printing.specs.Games.{spaced}
-use Rattle.printing.specs.Puts.{Puts}
-use Rattle.printing.specs.Walk.{exprs_bytes, exprs_fit, exprs_pieces, kind_words, kind_word, parts, head_text, Headed, Walked, exprs_text}
+use Rattle.printing.specs.Puts.{Wrote}
+use Rattle.printing.specs.Walk.{exprs_bytes, exprs_fit, exprs_pieces, kind_word, parts, head_text, Headed, Walked, exprs_text}
 use Rattle.printing.proofs.Putting.{join, nothing}
 use Rattle.printing.proofs.Rows.{Left}
-use Rattle.printing.proofs.Standing.{first_at, after_some, two_at}
+use Rattle.printing.proofs.Standing.{rest_at, two_at}
 
 -- an expression that is no number: its kind, and then its parts
 record Coded (e : Expr) : Type 0 where
@@ -25,11 +25,6 @@ record Coded (e : Expr) : Type 0 where
   pub bytes : expr_bytes e ≡ kind ∷ exprs_bytes (parts e)
   pub text : head_text e ≡ kind_word kind
   pub arity : (kind_after (kind - 1)).arity ≡ length (parts e)
-
--- other numbers are no kind that has a word
-pub no_word : (k at : ℕ) (old : List ℕ) → (0 < k → 12 < k) → Puts at (kind_word k) old at old
-no_word zero at old h = nothing at old
-no_word (suc k) at old h = rw (get_or_past kind_words (suc k) [] (h (omega arith))) (nothing at old)
 
 -- by how many parts there are
 none : (e : Expr) (k : ℕ) → 1 ≤ k → k ≤ 12 → expr_bytes e ≡ k ∷ [] → parts e ≡ [] → head_text e ≡ kind_word k → (kind_after (k - 1)).arity ≡ 0 → Coded e
@@ -66,47 +61,53 @@ coded (Lt a b) = inr (two (Lt a b) a b 10 (omega arith) (omega arith) refl refl 
 coded (Eq a b) = inr (two (Eq a b) a b 11 (omega arith) (omega arith) refl refl refl refl)
 coded (If a b c) = inr (three (If a b c) a b c 12 (omega arith) (omega arith) refl refl refl refl)
 
-module _ (bs : List ℕ) (i at j : ℕ) (old new rest : List ℕ) where
-  number_head :
-      (n v : ℕ) → v ≡ field_at bs (i + 1) % 65536 → Puts at (32 ∷ decimal v) old j new → drop i bs ≡ expr_bytes (Num n) ++ rest → expr_fits (Num n) ≡ true →
-      Headed bs at old (record { at = j; next = i + 3; parts = 0 }) new (Num n) rest
-  unfolding expr_bytes expr_fits head_text parts exprs_bytes spaced
-  number_head n v is h stands fits =
-      let two : drop (i + 1) bs ≡ number_bytes 2 n ++ rest = after_some bs i 1 (0 ∷ []) (number_bytes 2 n ++ rest) stands refl in
-      let same : v ≡ n = is ∙ two_at bs (i + 1) n rest (ltb-true n 65536 fits) two in
-      record {
-        puts = subst (λ ds. Puts at (32 ∷ ds) old j new) (ap decimal same ∙ sym (append-nil (decimal n))) h;
-        next = after_some bs i 3 (0 ∷ number_bytes 2 n) rest stands (ap suc (length_bytes 2 n));
-        count = refl;
-      }
-
+module _ {bs r : List ℕ} {a b : Writer} (after : r ≡ drop 1 bs) where
+  -- a number
   pub number_headed :
-      (e : Expr) (v : ℕ) → get_or bs i 0 ≡ 0 → v ≡ field_at bs (i + 1) % 65536 → Puts at (32 ∷ decimal v) old j new → drop i bs ≡ expr_bytes e ++ rest →
-      expr_fits e ≡ true → Headed bs at old (record { at = j; next = i + 3; parts = 0 }) new e rest
-  number_headed e v z is h stands fits =
+      {left : List ℕ} (v : ℕ) → get_or bs 0 0 ≡ 0 → v ≡ field_at r 0 % 65536 → left ≡ drop 2 r → Wrote a (32 ∷ decimal v) b → (e : Expr) (rest : List ℕ) → bs ≡ expr_bytes e ++ rest →
+      expr_fits e ≡ true → Headed a b e 0 left rest
+  unfolding expr_bytes expr_fits head_text parts exprs_bytes spaced
+  number_headed {left} v z is next h e rest stands fits =
       elim (coded e) [
         | inl n ↦
-            subst (λ x. drop i bs ≡ expr_bytes x ++ rest → expr_fits x ≡ true → Headed bs at old (record { at = j; next = i + 3; parts = 0 }) new x rest) (sym n.1)
-            (number_head n.0 v is h) stands fits
-        | inr d ↦ absurd (omega (arith, d.some, first_at bs i d.kind (exprs_bytes (parts e) ++ rest) (stands ∙ ap (λ x. x ++ rest) d.bytes)))
+            let k : bs ≡ expr_bytes (Num n.0) ++ rest = stands ∙ ap (λ x. expr_bytes x ++ rest) n.1 in
+            let two : r ≡ number_bytes 2 n.0 ++ rest = rest_at 1 (0 ∷ []) after k refl in
+            let same : v ≡ n.0 = is ∙ two_at n.0 rest (ltb-true n.0 65536 (ap expr_fits (sym n.1) ∙ fits)) two in
+            subst (λ x. Headed a b x 0 left rest) (sym n.1)
+            (record {
+              wrote = subst (λ ds. Wrote a (32 ∷ ds) b) (ap decimal same ∙ sym (append-nil (decimal n.0))) h;
+              next = rest_at 2 (number_bytes 2 n.0) next two (length_bytes 2 n.0);
+              count = refl;
+            })
+        | inr d ↦ absurd (omega (arith, d.some, z, ap (λ (xs : List ℕ). get_or xs 0 0) (stands ∙ ap (λ x. x ++ rest) d.bytes)))
       ]
 
+  -- any other kind
   pub kind_headed :
-      (e : Expr) (k n : ℕ) → (k ≡ 0 → ⊥) → k ≡ get_or bs i 0 → (1 ≤ k → k ≤ 12 → n ≡ (kind_after (k - 1)).arity) → Puts at (kind_word k) old j new →
-      drop i bs ≡ expr_bytes e ++ rest → Headed bs at old (record { at = j; next = i + 1; parts = n }) new e rest
+      (k n : ℕ) → 1 ≤ k → k ≡ get_or bs 0 0 → n ≡ (kind_after (k - 1)).arity → Wrote a (kind_word k) b → (e : Expr) (rest : List ℕ) → bs ≡ expr_bytes e ++ rest →
+      Headed a b e n r rest
   unfolding expr_bytes
-  kind_headed e k n some is arity h stands =
+  kind_headed k n some is arity h e rest stands =
       elim (coded e) [
-        | inl m ↦ absurd (some (is ∙ first_at bs i 0 (number_bytes 2 m.0 ++ rest) (stands ∙ ap (λ x. expr_bytes x ++ rest) m.1)))
+        | inl m ↦ absurd (omega (arith, is, ap (λ (xs : List ℕ). get_or xs 0 0) (stands ∙ ap (λ x. expr_bytes x ++ rest) m.1)))
         | inr d ↦
-            let cut : drop i bs ≡ d.kind ∷ (exprs_bytes (parts e) ++ rest) = stands ∙ ap (λ x. x ++ rest) d.bytes in
-            let same : k ≡ d.kind = is ∙ first_at bs i d.kind (exprs_bytes (parts e) ++ rest) cut in
+            let cut : bs ≡ d.kind ∷ (exprs_bytes (parts e) ++ rest) = stands ∙ ap (λ x. x ++ rest) d.bytes in
+            let same : k ≡ d.kind = is ∙ ap (λ (xs : List ℕ). get_or xs 0 0) cut in
             record {
-              puts = subst (λ w. Puts at w old j new) (ap kind_word same ∙ sym d.text) h;
-              next = after_some bs i 1 (d.kind ∷ []) (exprs_bytes (parts e) ++ rest) cut refl;
-              count = arity (omega (arith, d.some)) (omega (arith, d.known)) ∙ ap (λ x. (kind_after (x - 1)).arity) same ∙ d.arity;
+              wrote = subst (λ w. Wrote a w b) (ap kind_word same ∙ sym d.text) h;
+              next = rest_at 1 (d.kind ∷ []) after cut refl;
+              count = arity ∙ ap (λ x. (kind_after (x - 1)).arity) same ∙ d.arity;
             }
       ]
+
+-- a byte that is no kind begins no expression
+pub no_kind : {bs : List ℕ} {k : ℕ} → 12 < k → k ≡ get_or bs 0 0 → (e : Expr) (rest : List ℕ) → bs ≡ expr_bytes e ++ rest → ⊥
+unfolding expr_bytes
+no_kind large is e rest stands =
+    elim (coded e) [
+      | inl m ↦ omega (arith, is, ap (λ (xs : List ℕ). get_or xs 0 0) (stands ∙ ap (λ x. expr_bytes x ++ rest) m.1))
+      | inr d ↦ omega (arith, is, d.known, ap (λ (xs : List ℕ). get_or xs 0 0) (stands ∙ ap (λ x. x ++ rest) d.bytes))
+    ]
 
 pub spaced_append : (ps qs : List Piece) → spaced (ps ++ qs) ≡ spaced ps ++ spaced qs
 unfolding spaced
@@ -191,15 +192,15 @@ unfolding exprs_bytes
 bytes_some [] = omega arith
 bytes_some (e ∷ es) = omega (arith, head_some e, bytes_some es, length-append (expr_bytes e) (exprs_bytes es))
 
-module _ (bs : List ℕ) (i n at : ℕ) (now : List ℕ) (from : ℕ) (old : List ℕ) (es : List Expr) (rest : List ℕ) where
+module _ {bs : List ℕ} {n : ℕ} {from now : Writer} {es : List Expr} {rest : List ℕ} where
   more :
-      (mid : List ℕ) (h : Head) → 0 < n → ((e : Expr) (q : List ℕ) → drop i bs ≡ expr_bytes e ++ q → expr_fits e ≡ true → Headed bs at now h mid e q) →
-      (fs : List Expr) → drop i bs ≡ exprs_bytes fs ++ rest → exprs_fit fs ≡ true → length fs ≡ n →
-      ((j : ℕ) (new : List ℕ) → Puts at (spaced (exprs_pieces fs)) now j new → Puts from (spaced (exprs_pieces es)) old j new) →
-      Left exprs_bytes exprs_fit exprs_text bs h.next (n - 1 + h.parts) h.at mid from old es rest
+      {k : ℕ} {left : List ℕ} {mid : Writer} → 0 < n → ((e : Expr) (q : List ℕ) → bs ≡ expr_bytes e ++ q → expr_fits e ≡ true → Headed now mid e k left q) →
+      (fs : List Expr) → bs ≡ exprs_bytes fs ++ rest → exprs_fit fs ≡ true → length fs ≡ n →
+      ((new : Writer) → Wrote now (spaced (exprs_pieces fs)) new → Wrote from (spaced (exprs_pieces es)) new) →
+      Left exprs_bytes exprs_fit exprs_text left (n - 1 + k) from mid es rest
   unfolding exprs_bytes exprs_fit exprs_pieces
-  more mid h some one [] b f l on = absurd (omega arith)
-  more mid h some one (e ∷ fs) b f l on =
+  more some one [] b f l on = absurd (omega arith)
+  more some one (e ∷ fs) b f l on =
       let p = and_parts (expr_fits e) (exprs_fit fs) f in
       let head = one e (exprs_bytes fs ++ rest) (b ∙ append_assoc (expr_bytes e) (exprs_bytes fs) rest) p.0 in
       let text : head_text e ++ spaced (exprs_pieces (parts e ++ fs)) ≡ spaced (expr_pieces e ++ exprs_pieces fs) =
@@ -212,18 +213,18 @@ module _ (bs : List ℕ) (i n at : ℕ) (now : List ℕ) (from : ℕ) (old : Lis
         bytes = head.next ∙ sym (append_assoc (exprs_bytes (parts e)) (exprs_bytes fs) rest) ∙ ap (λ x. x ++ rest) (sym (bytes_append (parts e) fs));
         fit = fit_append (parts e) fs (parts_fit e p.0) p.1;
         count = length-append (parts e) fs ∙ omega (arith, head.count);
-        on = λ j new g. on j new (subst (λ t. Puts at t now j new) text (join head.puts g));
+        on = λ new g. on new (subst (λ t. Wrote now t new) text (join head.wrote g));
       }
 
   pub heads_more :
-      (mid : List ℕ) (h : Head) → 0 < n → ((e : Expr) (q : List ℕ) → drop i bs ≡ expr_bytes e ++ q → expr_fits e ≡ true → Headed bs at now h mid e q) →
-      Left exprs_bytes exprs_fit exprs_text bs i n at now from old es rest → Left exprs_bytes exprs_fit exprs_text bs h.next (n - 1 + h.parts) h.at mid from old es rest
-  heads_more mid h some one l = more mid h some one l.xs l.bytes l.fit l.count l.on
+      {k : ℕ} {left : List ℕ} {mid : Writer} → 0 < n → ((e : Expr) (q : List ℕ) → bs ≡ expr_bytes e ++ q → expr_fits e ≡ true → Headed now mid e k left q) →
+      Left exprs_bytes exprs_fit exprs_text bs n from now es rest → Left exprs_bytes exprs_fit exprs_text left (n - 1 + k) from mid es rest
+  heads_more some one l = more some one l.xs l.bytes l.fit l.count l.on
 
-  pub heads_end : (0 < n → length bs - i < n) → Left exprs_bytes exprs_fit exprs_text bs i n at now from old es rest → Walked bs from old (record { at = at; next = i }) now (spaced (exprs_pieces es)) rest
+  pub heads_end : (0 < n → length bs < n) → Left exprs_bytes exprs_fit exprs_text bs n from now es rest → Walked from now (spaced (exprs_pieces es)) bs rest
   unfolding spaced exprs_pieces exprs_bytes
   heads_end ends l =
-      let size : length bs - i ≡ length (exprs_bytes l.xs) + length rest = sym (length-drop i bs) ∙ ap length l.bytes ∙ length-append (exprs_bytes l.xs) rest in
+      let size : length bs ≡ length (exprs_bytes l.xs) + length rest = ap length l.bytes ∙ length-append (exprs_bytes l.xs) rest in
       let none : l.xs ≡ [] =
       elim (cases_eq n 0) [
         | inl z ↦ nil_from_length l.xs (l.count ∙ z)
@@ -231,6 +232,6 @@ module _ (bs : List ℕ) (i n at : ℕ) (now : List ℕ) (from : ℕ) (old : Lis
       ]
       in
       record {
-        puts = l.on at now (subst (λ fs. Puts at (spaced (exprs_pieces fs)) now at now) (sym none) (nothing at now));
+        wrote = l.on now (subst (λ fs. Wrote now (spaced (exprs_pieces fs)) now) (sym none) (nothing now));
         next = l.bytes ∙ ap (λ fs. exprs_bytes fs ++ rest) none;
       }

@@ -1,6 +1,8 @@
 mod Putting
 mod Standing
+mod Fits
 mod Rows
+mod KindNumbers
 mod Heads
 mod Lines
 mod Texts

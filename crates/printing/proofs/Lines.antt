@@ -1,155 +1,95 @@
 -- The lines of a game, put one after the other.
-use Rattle.std.proofs.Common.{◌≡◌, ℕ, ◌+◌, ◌-◌, ◌%◌, ◌<◌, min, true, ◌&&◌, ltb, List, [], ◌∷◌, ◌++◌, length, drop, codes, decimal, sym, refl, ap, ◌∙◌, subst, append_assoc, append-nil, arith}
-use Rattle.std.proofs.lemmas.List.{length-append, length-drop}
-use Rattle.std.proofs.lemmas.Bool.{and_parts, and_from, ltb-true}
+use Rattle.std.proofs.Common.{◌≡◌, ℕ, ◌%◌, ◌<◌, true, ◌&&◌, ltb, List, [], ◌∷◌, ◌++◌, length, get_or, drop, codes, decimal, sym, refl, ap, ◌∙◌, subst, append_assoc, append-nil}
+use Rattle.std.proofs.lemmas.Bool.{and_parts, and_from, ltb-true, lt-ltb}
 use Rattle.rules.specs.Rules.{Expr, Game}
 use Rattle.rules.specs.Bounds.{all_below}
 use Rattle.wire.specs.Exprs.{expr_bytes, expr_fits}
-use Rattle.wire.specs.Games.{cells_bytes, effects_bytes, rule_bytes, rules_bytes, game_bytes, effects_fit, rule_fits, rules_fit, fits_bytes}
+use Rattle.wire.specs.Games.{cells_bytes, effects_bytes, rule_bytes, game_bytes, fits_bytes}
 use Rattle.wire.specs.Numbers.{number_bytes}
 use Rattle.wire.specs.Fields.{field_at}
 use Rattle.wire.proofs.Numbers.{length_bytes}
 use Rattle.text.specs.Grammar.{number}
 use Rattle.game_text.specs.Text.{expr_pieces, number_pieces}
-use Rattle.printing.specs.declared.games.Spot.{Spot}
+use Rattle.printing.specs.declared.writer.Writer.{Writer}
 use Rattle.printing.specs.Games.{spaced, numbers_text, line, printed_effects, printed_rules, printed}
-use Rattle.printing.specs.Puts.{Puts}
-use Rattle.printing.specs.Walk.{exprs_bytes, exprs_fit, exprs_pieces, Walked, OnePut, AllPut, exprs_text, exprs_line, cell_text, effect_bytes, effect_fits, effect_text, rule_text}
+use Rattle.printing.specs.Puts.{Wrote}
+use Rattle.printing.specs.Sorts.{cells, effects, rules, effect_bytes}
+use Rattle.printing.specs.Walk.{exprs_bytes, exprs_fit, exprs_pieces, Walked, OnePut, AllPut, EachPut, exprs_text, exprs_line}
+use Rattle.printing.proofs.Fits.{rule_parts, game_parts}
 use Rattle.printing.proofs.Putting.{join}
-use Rattle.printing.proofs.Rows.{Made}
-use Rattle.printing.proofs.Standing.{after_some, two_at, byte_at}
-
--- a place further on; it is within the bytes, so it does not stop at the largest number
-pub further : (bs : List ℕ) (i n j : ℕ) (xs rest : List ℕ) → drop i bs ≡ xs ++ rest → length xs ≡ n → 0 < n → length bs < 18446744073709551616 → j ≡ min (i + n) 18446744073709551615 → drop j bs ≡ rest
-further bs i n j xs rest e l some small is =
-    let size : length bs - i ≡ length xs + length rest = sym (length-drop i bs) ∙ ap length e ∙ length-append xs rest in
-    let plain : j ≡ i + n = omega arith in
-    ap (λ k. drop k bs) plain ∙ after_some bs i n xs rest e l
+use Rattle.printing.proofs.Standing.{rest_at, two_at, byte_at}
 
 pub line_put :
-    (w : List ℕ) (bs : List ℕ) (i n at : ℕ) (old : List ℕ) (p : ℕ) (mid : List ℕ) (s : Spot) (mid' : List ℕ) (q : ℕ) (new : List ℕ) → Puts at w old p mid →
-    AllPut exprs_bytes exprs_fit exprs_text bs i n p mid s mid' → Puts s.at (10 ∷ []) mid' q new →
-    AllPut exprs_bytes exprs_fit (exprs_line w) bs i n at old (record { at = q; next = s.next }) new
+    (w : List ℕ) {bs left : List ℕ} {n : ℕ} {a b c d : Writer} → Wrote a w b → AllPut exprs_bytes exprs_fit exprs_text n bs b c left → Wrote c (10 ∷ []) d →
+    AllPut exprs_bytes exprs_fit (exprs_line w) n bs a d left
 unfolding line
-line_put w bs i n at old p mid s mid' q new h one g es rest e f l =
-    let k = one es rest e f l in record { puts = join h (join k.puts g); next = k.next }
+line_put w h one g es rest e f l = let k = one es rest e f l in record { wrote = join h (join k.wrote g); next = k.next }
 
-pub cell_put :
-    (bs : List ℕ) (i at : ℕ) (old : List ℕ) (v q j : ℕ) (new : List ℕ) → length bs < 18446744073709551616 → v ≡ field_at bs i % 65536 →
-    Puts at (32 ∷ decimal v) old q new → j ≡ min (i + 2) 18446744073709551615 →
-    OnePut (number_bytes 2) (λ n. ltb n 65536) cell_text bs i at old (record { at = q; next = j }) new
-cell_put bs i at old v q j new small is h on n rest e f = record {
-  puts = subst (λ x. Puts at (32 ∷ decimal x) old q new) (is ∙ two_at bs i n rest (ltb-true n 65536 f) e) h;
-  next = further bs i 2 j (number_bytes 2 n) rest e (length_bytes 2 n) (omega arith) small on;
-}
-
-pub cells_made : Made cells_bytes (all_below 65536) numbers_text (number_bytes 2) (λ n. ltb n 65536) cell_text
-unfolding cells_bytes all_below spaced number_pieces
-cells_made = record {
-  no_bytes = refl;
-  no_text = refl;
-  bytes = λ x xs. refl;
-  text = λ x xs. refl;
-  fits = λ x xs h. and_parts (ltb x 65536) (all_below 65536 xs) h;
+pub cell_put : {bs left : List ℕ} {a b : Writer} (v : ℕ) → v ≡ field_at bs 0 % 65536 → Wrote a (32 ∷ decimal v) b → left ≡ drop 2 bs → OnePut cells bs a b left
+cell_put {a = a} {b = b} v is h on n rest e f = record {
+  wrote = subst (λ x. Wrote a (32 ∷ decimal x) b) (is ∙ two_at n rest (ltb-true n 65536 f) e) h;
+  next = rest_at 2 (number_bytes 2 n) on e (length_bytes 2 n);
 }
 
 -- an effect: the cell's expression and the value's
-pub effect_put :
-    (bs : List ℕ) (i at : ℕ) (old : List ℕ) (s : Spot) (new : List ℕ) → AllPut exprs_bytes exprs_fit (exprs_line (codes "  set")) bs i 2 at old s new →
-    OnePut effect_bytes effect_fits effect_text bs i at old s new
+pub effect_put : {bs left : List ℕ} {a b : Writer} → AllPut exprs_bytes exprs_fit (exprs_line (codes "  set")) 2 bs a b left → OnePut effects bs a b left
 unfolding exprs_bytes exprs_fit exprs_pieces
-effect_put bs i at old s new h e rest stands fits =
+effect_put {left = left} {a = a} {b = b} h e rest stands fits =
     let p = and_parts (expr_fits e.cell) (expr_fits e.value) fits in
     let bytes : expr_bytes e.cell ++ (expr_bytes e.value ++ []) ≡ effect_bytes e = ap (λ x. expr_bytes e.cell ++ x) (append-nil (expr_bytes e.value)) in
     let pieces : expr_pieces e.cell ++ (expr_pieces e.value ++ []) ≡ expr_pieces e.cell ++ expr_pieces e.value =
     ap (λ x. expr_pieces e.cell ++ x) (append-nil (expr_pieces e.value))
     in
-    subst (λ ps. Walked bs at old s new (line (codes "  set") ps) rest) pieces
+    subst (λ ps. Walked a b (line (codes "  set") ps) left rest) pieces
     (h (e.cell ∷ e.value ∷ []) rest (stands ∙ ap (λ x. x ++ rest) (sym bytes))
     (and_from (expr_fits e.cell) (expr_fits e.value && true) p.0 (and_from (expr_fits e.value) true p.1 refl)) refl)
 
-pub effects_made : Made effects_bytes effects_fit printed_effects effect_bytes effect_fits effect_text
-unfolding effects_bytes effects_fit printed_effects
-effects_made = record {
-  no_bytes = refl;
-  no_text = refl;
-  bytes = λ e es. sym (append_assoc (expr_bytes e.cell) (expr_bytes e.value) (effects_bytes es));
-  text = λ e es. refl;
-  fits =
-      λ e es h.
-      let p = and_parts (expr_fits e.cell) (expr_fits e.value && effects_fit es) h in
-      let q = and_parts (expr_fits e.value) (effects_fit es) p.1 in
-      (and_from (expr_fits e.cell) (expr_fits e.value) p.0 q.0, q.1);
-}
-
 -- a line of one expression
-pub alone :
-    (w bs : List ℕ) (i at : ℕ) (old : List ℕ) (s : Spot) (new : List ℕ) (e : Expr) (rest : List ℕ) →
-    AllPut exprs_bytes exprs_fit (exprs_line w) bs i 1 at old s new → drop i bs ≡ expr_bytes e ++ rest → expr_fits e ≡ true →
-    Walked bs at old s new (line w (expr_pieces e)) rest
+alone :
+    (w : List ℕ) {bs left : List ℕ} {a b : Writer} (e : Expr) (rest : List ℕ) → AllPut exprs_bytes exprs_fit (exprs_line w) 1 bs a b left → bs ≡ expr_bytes e ++ rest →
+    expr_fits e ≡ true → Walked a b (line w (expr_pieces e)) left rest
 unfolding exprs_bytes exprs_fit exprs_pieces
-alone w bs i at old s new e rest h stands fits =
-    subst (λ ps. Walked bs at old s new (line w ps) rest) (append-nil (expr_pieces e))
+alone w {left = left} {a = a} {b = b} e rest h stands fits =
+    subst (λ ps. Walked a b (line w ps) left rest) (append-nil (expr_pieces e))
     (h (e ∷ []) rest (stands ∙ ap (λ x. x ++ rest) (sym (append-nil (expr_bytes e)))) (and_from (expr_fits e) true fits refl) refl)
 
--- the number of one byte
-pub byte_is : (bs : List ℕ) (i n v : ℕ) (rest : List ℕ) → drop i bs ≡ number_bytes 1 n ++ rest → n < 256 → v ≡ field_at bs i % 256 → v ≡ n
-byte_is bs i n v rest e l is = is ∙ byte_at bs i n rest l e
+-- two numbers of two bytes
+pair :
+    {bs left : List ℕ} {a b : Writer} (n m : ℕ) (rest : List ℕ) → EachPut cells 2 bs a b left → bs ≡ number_bytes 2 n ++ (number_bytes 2 m ++ rest) →
+    n < 65536 → m < 65536 → Walked a b (spaced (number n ∷ number m ∷ [])) left rest
+unfolding cells_bytes all_below number_pieces
+pair n m rest h stands f g =
+    h (n ∷ m ∷ []) rest
+    (stands ∙ ap (λ x. number_bytes 2 n ++ x) (ap (λ x. x ++ rest) (sym (append-nil (number_bytes 2 m)))) ∙ sym (append_assoc (number_bytes 2 n) (number_bytes 2 m ++ []) rest))
+    (and_from (ltb n 65536) (ltb m 65536 && true) (lt-ltb n 65536 f) (and_from (ltb m 65536) true (lt-ltb m 65536 g) refl)) refl
 
-regroup : (w a b n m : List ℕ) → w ++ (a ++ (b ++ (n ++ m))) ≡ (w ++ (a ++ (b ++ n))) ++ m
-regroup w a b n m = simp append_assoc
-
--- the line of a rule's bounds
-bounds_line : (a b : ℕ) → codes "rule" ++ ((32 ∷ decimal a) ++ ((32 ∷ decimal b) ++ (10 ∷ []))) ≡ line (codes "rule") (number a ∷ number b ∷ [])
-unfolding line spaced
-bounds_line a b = ap (λ x. codes "rule" ++ x) (simp (append_assoc, append-nil))
-
-pub rules_made : Made rules_bytes rules_fit printed_rules rule_bytes rule_fits rule_text
-unfolding rules_bytes rules_fit printed_rules
-rules_made = record {
-  no_bytes = refl;
-  no_text = refl;
-  bytes = λ u us. refl;
-  text = λ u us. simp append_assoc;
-  fits = λ u us h. and_parts (rule_fits u) (rules_fit us) h;
-}
+regroup : (w a n m : List ℕ) → w ++ (a ++ (n ++ m)) ≡ (w ++ (a ++ n)) ++ m
+regroup w a n m = simp append_assoc
 
 -- a rule: its bounds, its guard and its effects
 pub rule_put :
-    (bs : List ℕ) (i at : ℕ) (old : List ℕ) {p₁ : ℕ} {m₁ : List ℕ} (s₂ : Spot) (m₂ : List ℕ) (s₃ : Spot) (m₃ : List ℕ) {p₄ : ℕ} {m₄ : List ℕ}
-    (s₅ : Spot) (m₅ : List ℕ) (v j : ℕ) (s₆ : Spot) (new : List ℕ) → length bs < 18446744073709551616 → Puts at (codes "rule") old p₁ m₁ →
-    OnePut (number_bytes 2) (λ n. ltb n 65536) cell_text bs i p₁ m₁ s₂ m₂ →
-    OnePut (number_bytes 2) (λ n. ltb n 65536) cell_text bs s₂.next s₂.at m₂ s₃ m₃ → Puts s₃.at (10 ∷ []) m₃ p₄ m₄ →
-    AllPut exprs_bytes exprs_fit (exprs_line (codes "  may")) bs s₃.next 1 p₄ m₄ s₅ m₅ → v ≡ field_at bs s₅.next % 256 →
-    j ≡ min (s₅.next + 1) 18446744073709551615 → AllPut effects_bytes effects_fit printed_effects bs j v s₅.at m₅ s₆ new →
-    OnePut rule_bytes rule_fits rule_text bs i at old s₆ new
-unfolding rule_bytes rule_fits
-rule_put bs i at old s₂ m₂ s₃ m₃ s₅ m₅ v j s₆ new small h₁ h₂ h₃ h₄ h₅ is on h₆ u rest stands fits =
+    {bs r₂ r₄ r₅ left : List ℕ} {a₀ a₁ a₂ a₃ a₄ a₅ : Writer} (v : ℕ) → Wrote a₀ (codes "rule") a₁ → EachPut cells 2 bs a₁ a₂ r₂ → Wrote a₂ (10 ∷ []) a₃ →
+    AllPut exprs_bytes exprs_fit (exprs_line (codes "  may")) 1 r₂ a₃ a₄ r₄ → v ≡ get_or r₄ 0 0 → r₅ ≡ drop 1 r₄ → EachPut effects v r₅ a₄ a₅ left →
+    OnePut rules bs a₀ a₅ left
+unfolding rule_bytes line
+rule_put {bs = bs} {a₀ = a₀} {a₅ = a₅} v h₁ h₂ h₃ h₄ is on h₅ u rest stands fits =
     let a = u.first_bound in
     let b = u.second_bound in
     let n = length u.effects in
-    let f = and_parts (ltb a 65536 && ltb b 65536) (expr_fits u.guard && (ltb n 256 && effects_fit u.effects)) fits in
-    let ab = and_parts (ltb a 65536) (ltb b 65536) f.0 in
-    let g = and_parts (expr_fits u.guard) (ltb n 256 && effects_fit u.effects) f.1 in
-    let k = and_parts (ltb n 256) (effects_fit u.effects) g.1 in
-    let bytes :
-    drop i bs
-    ≡ number_bytes 2 a ++ (number_bytes 2 b ++ (expr_bytes u.guard ++ (number_bytes 1 n ++ (effects_bytes u.effects ++ rest)))) =
+    let f = rule_parts u fits in
+    let bytes : bs ≡ number_bytes 2 a ++ (number_bytes 2 b ++ (expr_bytes u.guard ++ (number_bytes 1 n ++ (effects_bytes u.effects ++ rest)))) =
     stands ∙ simp append_assoc
     in
-    let w₂ = h₂ a _ bytes ab.0 in
-    let w₃ = h₃ b _ w₂.next ab.1 in
-    let w₅ = alone (codes "  may") bs s₃.next _ _ s₅ m₅ u.guard _ h₅ w₃.next g.0 in
-    let count : v ≡ n = byte_is bs s₅.next n v _ w₅.next (ltb-true n 256 k.0) is in
-    let w₆ =
-    h₆ u.effects rest (further bs s₅.next 1 j (number_bytes 1 n) _ w₅.next (length_bytes 1 n) (omega arith) small on) k.1 (sym count) in
+    let w₂ = pair a b _ h₂ bytes f.first f.second in
+    let w₄ = alone (codes "  may") u.guard _ h₄ w₂.next f.guard in
+    let count : v ≡ n = is ∙ byte_at n _ f.count w₄.next in
+    let w₅ = h₅ u.effects rest (rest_at 1 (number_bytes 1 n) on w₄.next (length_bytes 1 n)) f.effects (sym count) in
     let may : List ℕ = line (codes "  may") (expr_pieces u.guard) ++ printed_effects u.effects in
-    let text : codes "rule" ++ ((32 ∷ decimal a) ++ ((32 ∷ decimal b) ++ ((10 ∷ []) ++ may))) ≡ rule_text u =
-    regroup (codes "rule") (32 ∷ decimal a) (32 ∷ decimal b) (10 ∷ []) may ∙ ap (λ x. x ++ may) (bounds_line a b)
-    in
     record {
-      puts = subst (λ x. Puts at x old s₆.at new) text (join h₁ (join w₂.puts (join w₃.puts (join h₄ (join w₅.puts w₆.puts)))));
-      next = w₆.next;
+      wrote =
+          subst (λ x. Wrote a₀ x a₅) (regroup (codes "rule") (spaced (number a ∷ number b ∷ [])) (10 ∷ []) may)
+          (join h₁ (join w₂.wrote (join h₃ (join w₄.wrote w₅.wrote))));
+      next = w₅.next;
     }
 
 lines : (p d n c cs t : List ℕ) → p ++ (d ++ ((n ++ c) ++ (cs ++ (n ++ t)))) ≡ (p ++ (d ++ n)) ++ ((c ++ (cs ++ n)) ++ t)
@@ -170,36 +110,23 @@ game_text g v e =
 
 -- the whole game
 pub game_put :
-    (bs : List ℕ) (old : List ℕ) (v₁ : ℕ) {p₁ p₂ p₃ : ℕ} {m₁ m₂ m₃ : List ℕ} (n₄ : ℕ) (s₄ : Spot) (m₄ : List ℕ) {p₅ : ℕ} {m₅ : List ℕ} (v₆ j : ℕ) (s₆ : Spot) (m₆ : List ℕ)
-    (s₇ : Spot) (m₇ : List ℕ) (s₈ : Spot) (new : List ℕ) → length bs < 18446744073709551616 → v₁ ≡ field_at bs 0 % 256 → Puts 0 (codes "players") old p₁ m₁ →
-    Puts p₁ (32 ∷ decimal v₁) m₁ p₂ m₂ → Puts p₂ (10 ∷ codes "cells") m₂ p₃ m₃ → n₄ ≡ field_at bs 1 % 65536 →
-    AllPut cells_bytes (all_below 65536) numbers_text bs 3 n₄ p₃ m₃ s₄ m₄ → Puts s₄.at (10 ∷ []) m₄ p₅ m₅ → v₆ ≡ field_at bs s₄.next % 256 →
-    j ≡ min (s₄.next + 1) 18446744073709551615 → AllPut rules_bytes rules_fit printed_rules bs j v₆ p₅ m₅ s₆ m₆ →
-    AllPut exprs_bytes exprs_fit (exprs_line (codes "over")) bs s₆.next 1 s₆.at m₆ s₇ m₇ →
-    AllPut exprs_bytes exprs_fit (exprs_line (codes "gain")) bs s₇.next 1 s₇.at m₇ s₈ new → (g : Game) → bs ≡ game_bytes g → fits_bytes g ≡ true →
-    Puts 0 (printed g) old s₈.at new
-unfolding game_bytes fits_bytes
-game_put bs old v₁ n₄ s₄ m₄ v₆ j s₆ m₆ s₇ m₇ s₈ new small is₁ h₁ h₂ h₃ is₄ h₄ h₅ is₆ on h₆ h₇ h₈ g e fits =
+    {bs r₁ r₂ r₄ r₅ r₆ r₇ r₈ : List ℕ} {a₀ a₁ a₂ a₃ a₄ a₅ a₆ a₇ a₈ : Writer} (p n m : ℕ) → p ≡ get_or bs 0 0 → r₁ ≡ drop 1 bs → Wrote a₀ (codes "players") a₁ →
+    Wrote a₁ (32 ∷ decimal p) a₂ → Wrote a₂ (10 ∷ codes "cells") a₃ → n ≡ field_at r₁ 0 % 65536 → r₂ ≡ drop 2 r₁ → EachPut cells n r₂ a₃ a₄ r₄ → Wrote a₄ (10 ∷ []) a₅ →
+    m ≡ get_or r₄ 0 0 → r₅ ≡ drop 1 r₄ → EachPut rules m r₅ a₅ a₆ r₆ → AllPut exprs_bytes exprs_fit (exprs_line (codes "over")) 1 r₆ a₆ a₇ r₇ →
+    AllPut exprs_bytes exprs_fit (exprs_line (codes "gain")) 1 r₇ a₇ a₈ r₈ → (g : Game) → bs ≡ game_bytes g → fits_bytes g ≡ true → Wrote a₀ (printed g) a₈
+unfolding game_bytes
+game_put {a₀ = a₀} {a₈ = a₈} v₁ v₂ v₅ is₁ on₁ h₁ h₂ h₃ is₂ on₂ h₄ h₅ is₅ on₅ h₆ h₇ h₈ g e fits =
     let p = g.players in
     let n = length g.start in
     let m = length g.rules in
-    let f = and_parts (ltb p 256 && (ltb n 65536 && all_below 65536 g.start)) ((ltb m 256 && rules_fit g.rules) && (expr_fits g.terminal && expr_fits g.payoff)) fits in
-    let f₁ = and_parts (ltb p 256) (ltb n 65536 && all_below 65536 g.start) f.0 in
-    let f₂ = and_parts (ltb n 65536) (all_below 65536 g.start) f₁.1 in
-    let f₃ = and_parts (ltb m 256 && rules_fit g.rules) (expr_fits g.terminal && expr_fits g.payoff) f.1 in
-    let f₄ = and_parts (ltb m 256) (rules_fit g.rules) f₃.0 in
-    let f₅ = and_parts (expr_fits g.terminal) (expr_fits g.payoff) f₃.1 in
-    let r₇ : List ℕ = expr_bytes g.terminal ++ (expr_bytes g.payoff ++ []) in
-    let r₄ : List ℕ = cells_bytes g.start ++ (number_bytes 1 m ++ (rules_bytes g.rules ++ r₇)) in
-    let bytes : drop 0 bs ≡ number_bytes 1 p ++ (number_bytes 2 n ++ r₄) = e ∙ ap (λ x. number_bytes 1 p ++ (number_bytes 2 n ++ (cells_bytes g.start ++ (number_bytes 1 m ++ (rules_bytes g.rules ++ (expr_bytes g.terminal ++ x)))))) (sym (append-nil (expr_bytes g.payoff))) in
-    let players : v₁ ≡ p = byte_is bs 0 p v₁ _ bytes (ltb-true p 256 f₁.0) is₁ in
-    let b₁ : drop 1 bs ≡ number_bytes 2 n ++ r₄ = after_some bs 0 1 (number_bytes 1 p) _ bytes (length_bytes 1 p) in
-    let cells : n₄ ≡ n = is₄ ∙ two_at bs 1 n r₄ (ltb-true n 65536 f₂.0) b₁ in
-    let b₄ : drop 3 bs ≡ r₄ = after_some bs 1 2 (number_bytes 2 n) r₄ b₁ (length_bytes 2 n) in
-    let w₄ = h₄ g.start _ b₄ f₂.1 (sym cells) in
-    let rules : v₆ ≡ m = byte_is bs s₄.next m v₆ _ w₄.next (ltb-true m 256 f₄.0) is₆ in
-    let w₆ = h₆ g.rules r₇ (further bs s₄.next 1 j (number_bytes 1 m) _ w₄.next (length_bytes 1 m) (omega arith) small on) f₄.1 (sym rules) in
-    let w₇ = alone (codes "over") bs s₆.next s₆.at m₆ s₇ m₇ g.terminal _ h₇ w₆.next f₅.0 in
-    let w₈ = alone (codes "gain") bs s₇.next s₇.at m₇ s₈ new g.payoff [] h₈ w₇.next f₅.1 in
-    subst (λ x. Puts 0 x old s₈.at new) (game_text g v₁ players)
-    (join h₁ (join h₂ (join h₃ (join w₄.puts (join h₅ (join w₆.puts (join w₇.puts w₈.puts)))))))
+    let f = game_parts g fits in
+    let players : v₁ ≡ p = is₁ ∙ byte_at p _ f.players e in
+    let b₁ = rest_at 1 (number_bytes 1 p) on₁ e (length_bytes 1 p) in
+    let cells : v₂ ≡ n = is₂ ∙ two_at n _ f.size b₁ in
+    let w₄ = h₄ g.start _ (rest_at 2 (number_bytes 2 n) on₂ b₁ (length_bytes 2 n)) f.start (sym cells) in
+    let rules : v₅ ≡ m = is₅ ∙ byte_at m _ f.count w₄.next in
+    let w₆ = h₆ g.rules _ (rest_at 1 (number_bytes 1 m) on₅ w₄.next (length_bytes 1 m)) f.rules (sym rules) in
+    let w₇ = alone (codes "over") g.terminal _ h₇ w₆.next f.terminal in
+    let w₈ = alone (codes "gain") g.payoff [] h₈ (w₇.next ∙ sym (append-nil (expr_bytes g.payoff))) f.payoff in
+    subst (λ x. Wrote a₀ x a₈) (game_text g v₁ players)
+    (join h₁ (join h₂ (join h₃ (join w₄.wrote (join h₅ (join w₆.wrote (join w₇.wrote w₈.wrote)))))))

@@ -6,12 +6,13 @@ use Rattle.std.proofs.lemmas.Bool.{and_parts, ltb-true}
 use Rattle.rules.specs.Rules.{Expr, Num, Cell, First, Second, Me, Add, Sub, Mul, Div, Rem, Lt, Eq, If, Effect, Rule}
 use Rattle.rules.specs.Bounds.{all_below}
 use Rattle.wire.specs.Exprs.{expr_bytes, expr_fits}
-use Rattle.wire.specs.Games.{cells_bytes, effects_bytes, rule_bytes, rules_bytes, game_bytes, effects_fit, rule_fits, rules_fit, fits_bytes}
+use Rattle.wire.specs.Games.{cells_bytes, effects_bytes, rule_bytes, rules_bytes, game_bytes, effects_fit, rule_fits, rules_fit}
 use Rattle.wire.specs.Numbers.{number_bytes}
 use Rattle.wire.proofs.Numbers.{length_bytes}
 use Rattle.text.specs.Grammar.{Piece, number}
 use Rattle.game_text.specs.Text.{expr_pieces, number_pieces}
 use Rattle.printing.specs.Games.{spaced, line, printed_effects, printed_rules, printed, PrintedFits}
+use Rattle.printing.proofs.Fits.{rule_parts, game_parts}
 use Rattle.printing.proofs.Heads.{spaced_append, head_some}
 
 decimal_short : (n : ℕ) → n < 65536 → length (decimal n) ≤ 5
@@ -92,17 +93,14 @@ effects_small (e ∷ es) h =
     )
 
 rules_small : (us : List Rule) → rules_fit us ≡ true → length (printed_rules us) ≤ 10 * length (rules_bytes us)
-unfolding rules_fit rule_fits printed_rules rules_bytes rule_bytes spaced
+unfolding rules_fit printed_rules rules_bytes rule_bytes spaced
 rules_small [] h = omega arith
 rules_small (u ∷ us) h =
     let a = u.first_bound in
     let b = u.second_bound in
     let n = length u.effects in
     let one = and_parts (rule_fits u) (rules_fit us) h in
-    let f = and_parts (ltb a 65536 && ltb b 65536) (expr_fits u.guard && (ltb n 256 && effects_fit u.effects)) one.0 in
-    let ab = and_parts (ltb a 65536) (ltb b 65536) f.0 in
-    let g = and_parts (expr_fits u.guard) (ltb n 256 && effects_fit u.effects) f.1 in
-    let e = and_parts (ltb n 256) (effects_fit u.effects) g.1 in
+    let f = rule_parts u one.0 in
     let bounds : List Piece = number a ∷ number b ∷ [] in
     let head : length (line (codes "rule") bounds) ≤ 17 =
     omega (
@@ -110,8 +108,8 @@ rules_small (u ∷ us) h =
       line_size (codes "rule") bounds,
       length-append (decimal a) (32 ∷ (decimal b ++ [])),
       length-append {A = ℕ} (decimal b) [],
-      decimal_short a (ltb-true a 65536 ab.0),
-      decimal_short b (ltb-true b 65536 ab.1),
+      decimal_short a f.first,
+      decimal_short b f.second,
     )
     in
     let may : List ℕ = line (codes "  may") (expr_pieces u.guard) in
@@ -136,25 +134,19 @@ rules_small (u ∷ us) h =
     omega (
       arith,
       line_size (codes "  may") (expr_pieces u.guard),
-      expr_small u.guard g.0,
-      effects_small u.effects e.1,
+      expr_small u.guard f.guard,
+      effects_small u.effects f.effects,
       rules_small us one.1,
       length-append (rule_bytes u) (rules_bytes us),
     )
 
 pub fits : PrintedFits
-unfolding fits_bytes printed game_bytes spaced
+unfolding printed game_bytes spaced
 fits g h =
     let p = g.players in
     let n = length g.start in
     let m = length g.rules in
-    let f = and_parts (ltb p 256 && (ltb n 65536 && all_below 65536 g.start)) ((ltb m 256 && rules_fit g.rules) && (expr_fits g.terminal && expr_fits g.payoff)) h in
-    let f₁ = and_parts (ltb p 256) (ltb n 65536 && all_below 65536 g.start) f.0 in
-    let f₂ = and_parts (ltb n 65536) (all_below 65536 g.start) f₁.1 in
-    let f₃ = and_parts (ltb m 256 && rules_fit g.rules) (expr_fits g.terminal && expr_fits g.payoff) f.1 in
-    let f₄ = and_parts (ltb m 256) (rules_fit g.rules) f₃.0 in
-    let f₅ = and_parts (expr_fits g.terminal) (expr_fits g.payoff) f₃.1 in
-    let few : p < 65536 = omega (arith, ltb-true p 256 f₁.0) in
+    let f = game_parts g h in
     let players : List ℕ = line (codes "players") (number p ∷ []) in
     let cells : List ℕ = line (codes "cells") (number_pieces g.start) in
     let over : List ℕ = line (codes "over") (expr_pieces g.terminal) in
@@ -186,12 +178,12 @@ fits g h =
       arith,
       line_size (codes "players") (number p ∷ []),
       length-append {A = ℕ} (decimal p) [],
-      decimal_short p few,
+      decimal_short p (omega (arith, f.players)),
       line_size (codes "cells") (number_pieces g.start),
-      cells_small g.start f₂.1,
-      rules_small g.rules f₄.1,
+      cells_small g.start f.start,
+      rules_small g.rules f.rules,
       line_size (codes "over") (expr_pieces g.terminal),
-      expr_small g.terminal f₅.0,
+      expr_small g.terminal f.terminal,
       line_size (codes "gain") (expr_pieces g.payoff),
-      expr_small g.payoff f₅.1,
+      expr_small g.payoff f.payoff,
     )

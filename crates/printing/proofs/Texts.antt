@@ -1,14 +1,15 @@
 -- What is printed of a game is its text.
-use Rattle.std.proofs.Common.{◌≡◌, ℕ, ◌+◌, ◌%◌, ◌^◌, ◌<◌, true, false, ◌&&◌, ltb, List, [], ◌∷◌, ◌++◌, length, codes, decimal, sym, refl, ap, ◌∙◌, subst, append_assoc, append-nil, arith, rules}
+use Rattle.std.proofs.Common.{◌≡◌, ℕ, ◌+◌, ◌%◌, ◌^◌, ◌<◌, true, false, ◌&&◌, ltb, List, [], ◌∷◌, ◌++◌, codes, decimal, sym, refl, ap, ◌∙◌, subst, append_assoc, append-nil, arith, rules}
 use Rattle.std.proofs.lemmas.Fmt.{decimal_nonempty, decimal_by_steps, digits_decimal, digits_value-decimal}
 use Rattle.std.proofs.lemmas.Str.Parse.{IsNumeralModel, numerals_by_fold}
 use Rattle.std.proofs.lemmas.Bool.{and_parts, ltb-true, ne_eqb}
 use Rattle.rules.specs.Rules.{Expr, Num, Cell, First, Second, Me, Add, Sub, Mul, Div, Rem, Lt, Eq, If, Effect, Rule}
 use Rattle.rules.specs.Bounds.{all_below}
 use Rattle.wire.specs.Exprs.{expr_fits}
-use Rattle.wire.specs.Games.{effects_fit, rule_fits, rules_fit, fits_bytes}
+use Rattle.wire.specs.Games.{effects_fit, rule_fits, rules_fit}
 use Rattle.text.specs.Grammar.{Piece, word, number, blank, digit, all, value_from, Spells, Written, end, piece, printed_piece}
 use Rattle.game_text.specs.Text.{blanked, expr_pieces, number_pieces, effects_pieces, rules_pieces, game_pieces}
+use Rattle.printing.proofs.Fits.{rule_parts, game_parts}
 use Rattle.printing.specs.Games.{spaced, line, printed_effects, printed_rules, printed, PrintedIsText}
 
 -- what is printed of a number is its digits
@@ -147,17 +148,13 @@ may_line u = line (codes "  may") (expr_pieces u.guard)
 rules_written :
     (us : List Rule) (qs : List Piece) (rest : List ℕ) → rules_fit us ≡ true → Written 1 qs (32 ∷ blanked false rest) →
     Written 1 (rules_pieces us ++ qs) (32 ∷ blanked false (printed_rules us ++ rest))
-unfolding rules_fit rule_fits rules_pieces printed_rules blanked all
+unfolding rules_fit rules_pieces printed_rules blanked all
 rules_written [] qs rest h k = k
 rules_written (u ∷ us) qs rest h k =
     let a = u.first_bound in
     let b = u.second_bound in
-    let n = length u.effects in
     let one = and_parts (rule_fits u) (rules_fit us) h in
-    let f = and_parts (ltb a 65536 && ltb b 65536) (expr_fits u.guard && (ltb n 256 && effects_fit u.effects)) one.0 in
-    let ab = and_parts (ltb a 65536) (ltb b 65536) f.0 in
-    let g = and_parts (expr_fits u.guard) (ltb n 256 && effects_fit u.effects) f.1 in
-    let e = and_parts (ltb n 256) (effects_fit u.effects) g.1 in
+    let f = rule_parts u one.0 in
     let after : List ℕ = printed_effects u.effects ++ (printed_rules us ++ rest) in
     let left : List Piece = effects_pieces u.effects ++ (rules_pieces us ++ qs) in
     let text : printed_rules (u ∷ us) ++ rest ≡ rule_line u ++ (may_line u ++ after) = simp append_assoc in
@@ -169,38 +166,29 @@ rules_written (u ∷ us) qs rest h k =
     (subst (λ x. Written 1 (word (codes "rule") ∷ number a ∷ number b ∷ word (codes "may") ∷ (expr_pieces u.guard ++ left)) (32 ∷ blanked false x)) (sym text)
     (more_space
     (line_written [] (codes "rule") refl (λ r. refl) (λ r. refl) (number a ∷ number b ∷ []) (word (codes "may") ∷ (expr_pieces u.guard ++ left)) (may_line u ++ after)
-    (number_fine a (ltb-true a 65536 ab.0), (number_fine b (ltb-true b 65536 ab.1), tt))
+    (number_fine a f.first, (number_fine b f.second, tt))
     (more_space
-    (line_written (32 ∷ 32 ∷ []) (codes "may") refl (λ r. refl) (λ r. refl) (expr_pieces u.guard) left after (expr_fine u.guard g.0)
-    (effects_written u.effects (rules_pieces us ++ qs) (printed_rules us ++ rest) e.1 (rules_written us qs rest one.1 k)))))))
+    (line_written (32 ∷ 32 ∷ []) (codes "may") refl (λ r. refl) (λ r. refl) (expr_pieces u.guard) left after (expr_fine u.guard f.guard)
+    (effects_written u.effects (rules_pieces us ++ qs) (printed_rules us ++ rest) f.effects (rules_written us qs rest one.1 k)))))))
 
 pub is_text : PrintedIsText
-unfolding fits_bytes game_pieces printed blanked all
+unfolding game_pieces printed blanked all
 is_text g fits =
-    let p = g.players in
-    let n = length g.start in
-    let m = length g.rules in
-    let f = and_parts (ltb p 256 && (ltb n 65536 && all_below 65536 g.start)) ((ltb m 256 && rules_fit g.rules) && (expr_fits g.terminal && expr_fits g.payoff)) fits in
-    let f₁ = and_parts (ltb p 256) (ltb n 65536 && all_below 65536 g.start) f.0 in
-    let f₂ = and_parts (ltb n 65536) (all_below 65536 g.start) f₁.1 in
-    let f₃ = and_parts (ltb m 256 && rules_fit g.rules) (expr_fits g.terminal && expr_fits g.payoff) f.1 in
-    let f₄ = and_parts (ltb m 256) (rules_fit g.rules) f₃.0 in
-    let f₅ = and_parts (expr_fits g.terminal) (expr_fits g.payoff) f₃.1 in
-    let few : p < 65536 = omega (arith, ltb-true p 256 f₁.0) in
+    let f = game_parts g fits in
     let gain : List ℕ = line (codes "gain") (expr_pieces g.payoff) in
     let over : List ℕ = line (codes "over") (expr_pieces g.terminal) in
     let gains : Written 1 (word (codes "gain") ∷ expr_pieces g.payoff) (32 ∷ blanked false gain) =
     subst (λ x. Written 1 (word (codes "gain") ∷ expr_pieces g.payoff) (32 ∷ blanked false x)) (append-nil gain)
     (subst (λ x. Written 1 (word (codes "gain") ∷ x) (32 ∷ blanked false (gain ++ []))) (append-nil (expr_pieces g.payoff))
-    (more_space (line_written [] (codes "gain") refl (λ r. refl) (λ r. refl) (expr_pieces g.payoff) [] [] (expr_fine g.payoff f₅.1) (end (32 ∷ []) refl))))
+    (more_space (line_written [] (codes "gain") refl (λ r. refl) (λ r. refl) (expr_pieces g.payoff) [] [] (expr_fine g.payoff f.payoff) (end (32 ∷ []) refl))))
     in
     let overs =
     more_space
     (line_written [] (codes "over") refl (λ r. refl) (λ r. refl) (expr_pieces g.terminal) (word (codes "gain") ∷ expr_pieces g.payoff) gain
-    (expr_fine g.terminal f₅.0) gains)
+    (expr_fine g.terminal f.terminal) gains)
     in
-    let rules = rules_written g.rules _ (over ++ gain) f₄.1 overs in
+    let rules = rules_written g.rules _ (over ++ gain) f.rules overs in
     let cells =
-    more_space (line_written [] (codes "cells") refl (λ r. refl) (λ r. refl) (number_pieces g.start) _ (printed_rules g.rules ++ (over ++ gain)) (numbers_fine g.start f₂.1) rules)
+    more_space (line_written [] (codes "cells") refl (λ r. refl) (λ r. refl) (number_pieces g.start) _ (printed_rules g.rules ++ (over ++ gain)) (numbers_fine g.start f.start) rules)
     in
-    (fits, line_written [] (codes "players") refl (λ r. refl) (λ r. refl) (number p ∷ []) _ _ (number_fine p few, tt) cells)
+    (fits, line_written [] (codes "players") refl (λ r. refl) (λ r. refl) (number g.players ∷ []) _ _ (number_fine g.players (omega (arith, f.players)), tt) cells)

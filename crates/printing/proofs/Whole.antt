@@ -9,7 +9,8 @@ use Rattle.wire.proofs.GamesBack.{game_writes_back}
 use Rattle.game_text.specs.Filling.{filled}
 use Rattle.game_text.proofs.Answering.{one_game}
 use Rattle.printing.specs.Games.{printed, printed_size, printed_into, ExactSize, PrintedReadsBack}
-use Rattle.printing.specs.Puts.{Puts}
+use Rattle.printing.specs.declared.writer.Writer.{Writer}
+use Rattle.printing.specs.Puts.{Wrote}
 use Rattle.printing.proofs.Putting.{filled_by, size_told}
 use Rattle.printing.proofs.Sizes.{fits}
 use Rattle.printing.proofs.Texts.{is_text}
@@ -30,10 +31,11 @@ game_there bs = there (parse_game bs)
         elim (good_game g) as (λ b. not (eqb (place_of (cond b (Ok (size_of g)) (Err (record { number = 3; place = 1 })))) 0) ≡ true) [ true ↦ refl | false ↦ refl ]
 
 pub game_printed :
-    (o : Option Game) (old : List ℕ) (r : ℕ) (new : List ℕ) → true ≡ is_some o → length old ≤ 18446744073709551615 →
-    ((g : Game) → o ≡ Some g → Puts 0 (printed g) old r new) → (Some r ≡ printed_size o) × (new ≡ printed_into o old)
-game_printed None old r new h l put = absurd (true≢false h)
-game_printed (Some g) old r new h l put = (ap Some (size_told (printed g) old r new (put g refl)), filled_by (printed g) old r new l (put g refl))
+    (o : Option Game) {a b : Writer} → a.at ≡ 0 → true ≡ is_some o → length a.out.now ≤ 18446744073709551615 → ((g : Game) → o ≡ Some g → Wrote a (printed g) b) →
+    (Some b.at ≡ printed_size o) × (b.out.now ≡ printed_into o a.out.now) × (b.out.ghost_name ≡ a.out.ghost_name)
+game_printed None start h l put = absurd (true≢false h)
+game_printed (Some g) start h l put =
+    (ap Some (size_told (printed g) start (put g refl)), filled_by (printed g) start (put g refl) l, (put g refl).same_memory)
 
 pub no_game : (o : Option Game) (old : List ℕ) → false ≡ is_some o → (None ≡ printed_size o) × (old ≡ printed_into o old)
 no_game None old h = (refl, refl)

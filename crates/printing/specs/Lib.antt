@@ -1,4 +1,5 @@
 pub mod Games
 pub mod Answers
 pub mod Puts
+pub mod Sorts
 pub mod Walk

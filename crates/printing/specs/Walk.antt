@@ -1,13 +1,13 @@
 -- What the steps of printing a game find in its bytes. No reader has to believe these: the contract of the whole does not name them.
-use Rattle.std.specs.Prelude.{◌≡◌, ℕ, Bool, true, ◌&&◌, List, [], ◌∷◌, ◌++◌, length, drop, codes, decimal, slice_index_or}
-use Rattle.rules.specs.Rules.{Expr, Num, Cell, First, Second, Me, Add, Sub, Mul, Div, Rem, Lt, Eq, If, Effect, Rule}
+use Rattle.std.specs.Prelude.{◌≡◌, ℕ, Bool, true, ◌&&◌, List, [], ◌∷◌, ◌++◌, length, codes, slice_index_or}
+use Rattle.rules.specs.Rules.{Expr, Num, Cell, First, Second, Me, Add, Sub, Mul, Div, Rem, Lt, Eq, If}
 use Rattle.wire.specs.Exprs.{expr_bytes, expr_fits}
 use Rattle.text.specs.Grammar.{Piece, number}
 use Rattle.game_text.specs.Text.{expr_pieces}
-use Rattle.printing.specs.declared.games.Head.{Head}
-use Rattle.printing.specs.declared.games.Spot.{Spot}
-use Rattle.printing.specs.Games.{spaced, line, printed_effects}
-use Rattle.printing.specs.Puts.{Puts}
+use Rattle.printing.specs.declared.writer.Writer.{Writer}
+use Rattle.printing.specs.Games.{spaced, line}
+use Rattle.printing.specs.Puts.{Wrote}
+use Rattle.printing.specs.Sorts.{Sort}
 
 -- expressions that follow one another
 unfoldable pub exprs_bytes : List Expr → List ℕ
@@ -63,25 +63,28 @@ head_text (Lt a b) = kind_word 10
 head_text (Eq a b) = kind_word 11
 head_text (If a b c) = kind_word 12
 
--- what stands before an expression's parts was put, and they follow
-pub record Headed (bs : List ℕ) (at : ℕ) (old : List ℕ) (h : Head) (new : List ℕ) (e : Expr) (rest : List ℕ) : Type 0 where
-  pub puts : Puts at (head_text e) old h.at new
-  pub next : drop h.next bs ≡ exprs_bytes (parts e) ++ rest
-  pub count : h.parts ≡ length (parts e)
+-- what stands before an expression's n parts was put, and they are what is left, before the rest
+pub record Headed (old new : Writer) (e : Expr) (n : ℕ) (left rest : List ℕ) : Type 0 where
+  pub wrote : Wrote old (head_text e) new
+  pub next : left ≡ exprs_bytes (parts e) ++ rest
+  pub count : n ≡ length (parts e)
 
--- a text was put, and these bytes of the game are left
-pub record Walked (bs : List ℕ) (at : ℕ) (old : List ℕ) (s : Spot) (new : List ℕ) (text rest : List ℕ) : Type 0 where
-  pub puts : Puts at text old s.at new
-  pub next : drop s.next bs ≡ rest
+-- a text was put, and the rest is what is left
+pub record Walked (old new : Writer) (text left rest : List ℕ) : Type 0 where
+  pub wrote : Wrote old text new
+  pub next : left ≡ rest
 
--- what putting one thing from i on comes to: b are its bytes, f says that they fit, t is its text
-abbrev pub OnePut : {X : Type 0} → (X → List ℕ) → (X → Bool) → (X → List ℕ) → List ℕ → ℕ → ℕ → List ℕ → Spot → List ℕ → Type 0
-OnePut {X} b f t bs i at old s new = (x : X) (rest : List ℕ) → drop i bs ≡ b x ++ rest → f x ≡ true → Walked bs at old s new (t x) rest
+-- what putting the one thing of a sort that bytes begin with comes to
+abbrev pub OnePut : Sort → List ℕ → Writer → Writer → List ℕ → Type 0
+OnePut s bs old new left = (x : s.0) (rest : List ℕ) → bs ≡ s.1.bytes x ++ rest → s.1.fits x ≡ true → Walked old new (s.1.text x) left rest
 
--- and what putting n of them comes to
-abbrev pub AllPut : {X : Type 0} → (List X → List ℕ) → (List X → Bool) → (List X → List ℕ) → List ℕ → ℕ → ℕ → ℕ → List ℕ → Spot → List ℕ → Type 0
-AllPut {X} b f t bs i n at old s new =
-    (xs : List X) (rest : List ℕ) → drop i bs ≡ b xs ++ rest → f xs ≡ true → length xs ≡ n → Walked bs at old s new (t xs) rest
+-- what putting the n things that bytes begin with comes to: b are their bytes, f says that they fit, t is their text
+abbrev pub AllPut : {X : Type 0} → (List X → List ℕ) → (List X → Bool) → (List X → List ℕ) → ℕ → List ℕ → Writer → Writer → List ℕ → Type 0
+AllPut {X} b f t n bs old new left =
+    (xs : List X) (rest : List ℕ) → bs ≡ b xs ++ rest → f xs ≡ true → length xs ≡ n → Walked old new (t xs) left rest
+
+abbrev pub EachPut : Sort → ℕ → List ℕ → Writer → Writer → List ℕ → Type 0
+EachPut s = AllPut s.1.all_bytes s.1.all_fit s.1.all_text
 
 abbrev pub exprs_text : List Expr → List ℕ
 exprs_text es = spaced (exprs_pieces es)
@@ -89,23 +92,3 @@ exprs_text es = spaced (exprs_pieces es)
 -- a line that begins with a word, and has expressions
 abbrev pub exprs_line : List ℕ → List Expr → List ℕ
 exprs_line w es = line w (exprs_pieces es)
-
--- a number of two bytes
-abbrev pub cell_text : ℕ → List ℕ
-cell_text n = 32 ∷ decimal n
-
--- one effect
-abbrev pub effect_bytes : Effect → List ℕ
-effect_bytes e = expr_bytes e.cell ++ expr_bytes e.value
-
-abbrev pub effect_fits : Effect → Bool
-effect_fits e = expr_fits e.cell && expr_fits e.value
-
-abbrev pub effect_text : Effect → List ℕ
-effect_text e = line (codes "  set") (expr_pieces e.cell ++ expr_pieces e.value)
-
--- one rule
-abbrev pub rule_text : Rule → List ℕ
-rule_text u =
-    line (codes "rule") (number u.first_bound ∷ number u.second_bound ∷ [])
-    ++ (line (codes "  may") (expr_pieces u.guard) ++ printed_effects u.effects)

@@ -1,197 +1,185 @@
 // Games printed as text, from their bytes.
-ghost use Rattle.std.specs.Prelude.{◌≡◌, ℕ, ◌+◌, ◌%◌, ◌<◌, ◌≤◌, true, List, ◌++◌, length, drop, is_some, nat_lt};
+ghost use Rattle.std.specs.Prelude.{◌≡◌, ℕ, ◌<◌, ◌≤◌, true, List, ◌++◌, length, drop, is_some, slice_index};
 ghost use Rattle.rules.specs.Rules.{Expr, Game};
 ghost use Rattle.wire.specs.Exprs.{expr_bytes, expr_fits};
-ghost use Rattle.rules.specs.Bounds.{all_below};
-ghost use Rattle.wire.specs.Numbers.{number_bytes};
-ghost use Rattle.wire.specs.Games.{cells_bytes, effects_bytes, rule_bytes, rules_bytes, game_bytes, effects_fit, rule_fits, rules_fit, fits_bytes, parse_game};
-ghost use Rattle.wire.specs.Fields.{field_at};
-ghost use Rattle.printing.specs.Games.{numbers_text, printed_effects, printed_rules, printed, printed_size, printed_into, ExactSize, PrintedIsText, PrintedReadsBack, PrintedFits};
-ghost use Rattle.printing.specs.Puts.{Puts};
-ghost use Rattle.printing.specs.Walk.{kind_word, Headed, OnePut, AllPut, exprs_bytes, exprs_fit, exprs_text, exprs_line, cell_text, rule_text};
+ghost use Rattle.wire.specs.Games.{game_bytes, fits_bytes, parse_game};
+ghost use Rattle.wire.specs.Kinds.{kind_number};
+ghost use Rattle.printing.specs.Games.{printed, printed_size, printed_into, ExactSize, PrintedIsText, PrintedReadsBack, PrintedFits};
+ghost use Rattle.printing.specs.Puts.{Wrote};
+ghost use Rattle.printing.specs.Walk.{kind_word, Headed, OnePut, AllPut, EachPut, exprs_bytes, exprs_fit, exprs_text, exprs_line};
+ghost use Rattle.printing.specs.Sorts.{Sort, SortLaws, cells, effects, rules, cells_laws, effects_laws, rules_laws};
 
-use super::{put_number, put_word};
-use wire::{arity_of, check_game, field_at};
+use super::writer::Writer;
+use wire::{ExprKind, check_game, two_bytes};
 
-// Where an expression's own part of the text ends, where its parts begin in the bytes, and how many it has.
-#[derive(Clone, Copy)]
-struct Head {
-    at: usize,
-    next: usize,
-    parts: usize,
-}
-
-// Where the text goes on, and where the bytes do.
-#[derive(Clone, Copy)]
-struct Spot {
-    at: usize,
-    next: usize,
-}
-
-// The number in the two bytes at `at`, the lower first; bytes that are not there count as 0.
-fn two_bytes(game: &[u8], at: usize) -> u32
-    ensures { result ≡ field_at game.now at % 65536 }
+// The bytes after the first n.
+fn after(bytes: &[u8], n: usize) -> &[u8]
+    ensures { result.now ≡ drop n bytes.now }
 {
-    field_at(game, at) % 65536
+    &bytes[n.min(bytes.len())..]
 }
 
-// A blank and the word of a kind of expression.
-fn put_kind(out: &mut [u8], at: usize, kind: u8) -> usize
-    ensures { Puts at (kind_word kind) out.old result out.new }
+// The number in the first byte, and the bytes after it; of no bytes 0.
+fn first_number(bytes: &[u8]) -> (u8, &[u8])
+    ensures number { result.0 ≡ slice_index bytes.now 0 }
+    ensures rest { result.1.now ≡ drop 1 bytes.now }
+{
+    match bytes {
+        [n, rest @ ..] => (*n, rest),
+        [] => (0, bytes),
+    }
+}
+
+// A blank and the word of a kind of expression; a number has none.
+fn word_of(kind: ExprKind) -> &'static [u8]
+    ensures { result.now ≡ kind_word (kind_number kind) }
 {
     match kind {
-        1 => put_word(out, at, b" cell"),
-        2 => put_word(out, at, b" first"),
-        3 => put_word(out, at, b" second"),
-        4 => put_word(out, at, b" me"),
-        5 => put_word(out, at, b" +"),
-        6 => put_word(out, at, b" -"),
-        7 => put_word(out, at, b" *"),
-        8 => put_word(out, at, b" /"),
-        9 => put_word(out, at, b" rest"),
-        10 => put_word(out, at, b" below"),
-        11 => put_word(out, at, b" same"),
-        12 => put_word(out, at, b" if"),
-        _ => at,
+        ExprKind::Num => b"",
+        ExprKind::Cell => b" cell",
+        ExprKind::First => b" first",
+        ExprKind::Second => b" second",
+        ExprKind::Me => b" me",
+        ExprKind::Add => b" +",
+        ExprKind::Sub => b" -",
+        ExprKind::Mul => b" *",
+        ExprKind::Div => b" /",
+        ExprKind::Rem => b" rest",
+        ExprKind::Lt => b" below",
+        ExprKind::Eq => b" same",
+        ExprKind::If => b" if",
     }
 }
 
-// The expression that begins at `from`, without its parts.
-fn put_head(out: &mut [u8], at: usize, game: &[u8], from: usize) -> Head
-    requires { from < length game.now }
-    ensures text { (e : Expr) (rest : List ℕ) → drop from game.now ≡ expr_bytes e ++ rest → expr_fits e ≡ true → Headed game.now at out.old result out.new e rest }
-    ensures after { (from < result.next) × (result.next ≤ from + 3) }
-    ensures few { result.parts ≤ 3 }
+// The expression that bytes begin with, without its parts: how many parts it has, and the bytes from them on.
+fn put_head<'g>(writer: &mut Writer<'_>, game: &'g [u8]) -> (usize, &'g [u8])
+    ensures text { (e : Expr) (rest : List ℕ) → game.now ≡ expr_bytes e ++ rest → expr_fits e ≡ true → Headed writer.old writer.new e result.0 result.1.now rest }
+    ensures shorter { 0 < length game.now → length result.1.now < length game.now }
+    ensures few { result.0 ≤ 3 }
 {
-    let kind = game[from];
-    if kind == 0 {
-        return Head {
-            at: put_number(out, at, two_bytes(game, from + 1)),
-            next: from + 3,
-            parts: 0,
-        };
-    }
-    Head {
-        at: put_kind(out, at, kind),
-        next: from + 1,
-        parts: arity_of(kind),
+    let (byte, rest) = first_number(game);
+    let Ok(kind) = ExprKind::try_from(byte) else {
+        return (0, rest);
+    };
+    match kind {
+        ExprKind::Num => {
+            writer.number(u32::from(two_bytes(rest, 0)));
+            (0, after(rest, 2))
+        }
+        _ => {
+            writer.word(word_of(kind));
+            (kind.arity(), rest)
+        }
     }
 }
 
 // So many expressions, by the count of those still to come: however deep they are nested, nothing is kept of them.
-fn put_exprs(out: &mut [u8], at: usize, game: &[u8], from: usize, count: usize) -> Spot
-    ensures { AllPut exprs_bytes exprs_fit exprs_text game.now from count at out.old result out.new }
+// An expression has a byte at least, so where more are to come than there are bytes, these are no game.
+fn put_exprs<'g>(writer: &mut Writer<'_>, game: &'g [u8], count: usize) -> &'g [u8]
+    ensures { AllPut exprs_bytes exprs_fit exprs_text count game.now writer.old writer.new result.now }
 {
-    let mut i = from;
-    let mut place = at;
+    let mut rest = game;
     let mut pending = count;
-    while pending > 0 && pending <= game.len().saturating_sub(i) {
-        let head = put_head(out, place, game, i);
-        place = head.at;
-        i = head.next;
-        pending = pending - 1 + head.parts;
+    while pending > 0 && pending <= rest.len() {
+        let (parts, next) = put_head(writer, rest);
+        rest = next;
+        pending = pending - 1 + parts;
     }
-    Spot { at: place, next: i }
+    rest
 }
 
 // A line that begins with a word and has so many expressions.
-fn put_line(out: &mut [u8], at: usize, word: &[u8], game: &[u8], from: usize, count: usize) -> Spot
-    ensures { AllPut exprs_bytes exprs_fit (exprs_line word.now) game.now from count at out.old result out.new }
+fn put_line<'g>(writer: &mut Writer<'_>, word: &[u8], game: &'g [u8], count: usize) -> &'g [u8]
+    ensures { AllPut exprs_bytes exprs_fit (exprs_line word.now) count game.now writer.old writer.new result.now }
 {
-    let place = put_word(out, at, word);
-    let exprs = put_exprs(out, place, game, from, count);
-    Spot {
-        at: put_word(out, exprs.at, b"\n"),
-        next: exprs.next,
+    writer.word(word);
+    let rest = put_exprs(writer, game, count);
+    writer.word(b"\n");
+    rest
+}
+
+// Things of one sort, of which several stand one after the other in a game.
+trait Part {
+    ghost sort: { Sort };
+
+    ghost laws: { SortLaws sort };
+
+    // Prints the one that bytes begin with, and tells the bytes after it.
+    fn put<'g>(writer: &mut Writer<'_>, game: &'g [u8]) -> &'g [u8]
+        ensures { OnePut sort game.now writer.old writer.new result.now };
+}
+
+// So many of them.
+fn put_all<'g, P: Part>(writer: &mut Writer<'_>, game: &'g [u8], count: usize) -> &'g [u8]
+    ensures { EachPut P.sort count game.now writer.old writer.new result.now }
+{
+    let mut rest = game;
+    for _ in 0..count {
+        rest = P::put(writer, rest);
+    }
+    rest
+}
+
+// Numbers of two bytes.
+struct Cell;
+
+impl Part for Cell {
+    ghost sort = { cells };
+
+    ghost laws = { cells_laws };
+
+    fn put<'g>(writer: &mut Writer<'_>, game: &'g [u8]) -> &'g [u8] {
+        writer.number(u32::from(two_bytes(game, 0)));
+        after(game, 2)
     }
 }
 
-// A number of two bytes.
-fn put_number_at(out: &mut [u8], at: usize, game: &[u8], from: usize) -> Spot
-    ensures { OnePut (number_bytes 2) (λ n. nat_lt n 65536) cell_text game.now from at out.old result out.new }
-{
-    Spot {
-        at: put_number(out, at, two_bytes(game, from)),
-        next: from.saturating_add(2),
+// Of an effect the cell's expression and the value's.
+struct Effect;
+
+impl Part for Effect {
+    ghost sort = { effects };
+
+    ghost laws = { effects_laws };
+
+    fn put<'g>(writer: &mut Writer<'_>, game: &'g [u8]) -> &'g [u8] {
+        put_line(writer, b"  set", game, 2)
     }
 }
 
-fn put_cells(out: &mut [u8], at: usize, game: &[u8], from: usize, count: usize) -> Spot
-    ensures { AllPut cells_bytes (all_below 65536) numbers_text game.now from count at out.old result out.new }
-{
-    let mut spot = Spot { at, next: from };
-    let mut left = count;
-    while left > 0 {
-        spot = put_number_at(out, spot.at, game, spot.next);
-        left -= 1;
-    }
-    spot
-}
+// Of a rule its bounds, its guard and its effects.
+struct Rule;
 
-// So many effects: of each the cell's expression and the value's.
-fn put_effects(out: &mut [u8], at: usize, game: &[u8], from: usize, count: usize) -> Spot
-    ensures { AllPut effects_bytes effects_fit printed_effects game.now from count at out.old result out.new }
-{
-    let mut spot = Spot { at, next: from };
-    let mut left = count;
-    while left > 0 {
-        spot = put_line(out, spot.at, b"  set", game, spot.next, 2);
-        left -= 1;
-    }
-    spot
-}
+impl Part for Rule {
+    ghost sort = { rules };
 
-// A rule: its bounds, its guard and its effects.
-fn put_rule(out: &mut [u8], at: usize, game: &[u8], from: usize) -> Spot
-    ensures { OnePut rule_bytes rule_fits rule_text game.now from at out.old result out.new }
-{
-    let place = put_word(out, at, b"rule");
-    let first = put_number_at(out, place, game, from);
-    let second = put_number_at(out, first.at, game, first.next);
-    let place = put_word(out, second.at, b"\n");
-    let guard = put_line(out, place, b"  may", game, second.next, 1);
-    let count = field_at(game, guard.next) % 256;
-    put_effects(
-        out,
-        guard.at,
-        game,
-        guard.next.saturating_add(1),
-        count as usize,
-    )
-}
+    ghost laws = { rules_laws };
 
-fn put_rules(out: &mut [u8], at: usize, game: &[u8], from: usize, count: usize) -> Spot
-    ensures { AllPut rules_bytes rules_fit printed_rules game.now from count at out.old result out.new }
-{
-    let mut spot = Spot { at, next: from };
-    let mut left = count;
-    while left > 0 {
-        spot = put_rule(out, spot.at, game, spot.next);
-        left -= 1;
+    fn put<'g>(writer: &mut Writer<'_>, game: &'g [u8]) -> &'g [u8] {
+        writer.word(b"rule");
+        let game = put_all::<Cell>(writer, game, 2);
+        writer.word(b"\n");
+        let game = put_line(writer, b"  may", game, 1);
+        let (count, game) = first_number(game);
+        put_all::<Effect>(writer, game, usize::from(count))
     }
-    spot
 }
 
 // All of a game.
-fn put_game(out: &mut [u8], game: &[u8]) -> usize
-    ensures { (g : Game) → game.now ≡ game_bytes g → fits_bytes g ≡ true → Puts 0 (printed g) out.old result out.new }
+fn put_game(writer: &mut Writer<'_>, game: &[u8])
+    ensures { (g : Game) → game.now ≡ game_bytes g → fits_bytes g ≡ true → Wrote writer.old (printed g) writer.new }
 {
-    let place = put_word(out, 0, b"players");
-    let place = put_number(out, place, field_at(game, 0) % 256);
-    let place = put_word(out, place, b"\ncells");
-    let cells = put_cells(out, place, game, 3, two_bytes(game, 1) as usize);
-    let place = put_word(out, cells.at, b"\n");
-    let count = field_at(game, cells.next) % 256;
-    let rules = put_rules(
-        out,
-        place,
-        game,
-        cells.next.saturating_add(1),
-        count as usize,
-    );
-    let over = put_line(out, rules.at, b"over", game, rules.next, 1);
-    let gain = put_line(out, over.at, b"gain", game, over.next, 1);
-    gain.at
+    let (players, game) = first_number(game);
+    writer.word(b"players");
+    writer.number(u32::from(players));
+    writer.word(b"\ncells");
+    let count = usize::from(two_bytes(game, 0));
+    let game = put_all::<Cell>(writer, after(game, 2), count);
+    writer.word(b"\n");
+    let (count, game) = first_number(game);
+    let game = put_all::<Rule>(writer, game, usize::from(count));
+    let game = put_line(writer, b"over", game, 1);
+    put_line(writer, b"gain", game, 1);
 }
 
 // Whether bytes are a game.
@@ -214,7 +202,9 @@ pub fn print_game(game: &[u8], out: &mut [u8]) -> Option<usize>
     if !is_game(game) {
         return None;
     }
-    Some(put_game(out, game))
+    let mut writer = Writer { out, at: 0 };
+    put_game(&mut writer, game);
+    Some(writer.at)
 }
 
 // What is printed of a game whose numbers fit is its text.

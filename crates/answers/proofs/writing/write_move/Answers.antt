@@ -4,7 +4,6 @@ use Rattle.wire.specs.Fields.{fields_bytes}
 use Rattle.wire.proofs.Writing.{written_none, no_room, room_for}
 use Rattle.answers.specs.Answers.{moves_fields}
 use Rattle.answers.specs.Writing.{moves_bytes, move_bytes}
-use Rattle.answers.proofs.WritingLemmas.{three_written}
 use Rattle.answers.proofs.writing.write_move.Goals as goal
 
 pub returns-then-saturating_sub-lt12 : goal.returns-then-saturating_sub-lt12
@@ -18,8 +17,5 @@ pub returns : goal.returns
 unfolding moves_bytes moves_fields fields_bytes number_bytes
 returns c = record {
   size = room_for c.args.at 12 (move_bytes c.args.played) c.args.answer.now refl (omega arith);
-  bytes =
-      three_written c.args.answer.now c.put_field.new.bytes c.put_field-2.new.bytes c.put_field-3.new.bytes c.args.at
-      c.args.played.rule c.args.played.first c.args.played.second (omega arith) c.put_field.ensures c.put_field-2.ensures
-      c.put_field-3.ensures;
+  bytes = c.put_fields.ensures;
 }

@@ -1,4 +1,4 @@
-use Rattle.std.proofs.Common.{ℕ, List, arith}
+use Rattle.std.proofs.Common.{ℕ, List, refl, arith, rules}
 use Rattle.wire.specs.Games.{parse_game}
 use Rattle.wire.proofs.GamesCheck.{below_from}
 use Rattle.wire.proofs.GamesBack.{game_writes_back}
@@ -16,7 +16,8 @@ returns c =
     let bs : List ℕ = c.args.game.now in
     let all = below_from bs (λ i. (c.type_inv.game i).fits) in
     let h =
-    game_printed (parse_game bs) c.args.out.now c.put_game.result c.put_game.new.out c.if-not-is_game.ensures (omega arith)
-    (λ g e. let back = game_writes_back bs g all e in c.put_game.ensures g back.0 back.1)
-    in
-    record { size = h.0; exact = exact bs _ all h.0; text = h.1 }
+    game_printed (parse_game bs) refl c.if-not-is_game.ensures (omega arith)
+    (λ g e. let back = game_writes_back bs g all e in c.put_game.ensures g back.0 back.1) in
+    let text = h.1 in
+    let same = h.2 in
+    record { size = h.0; exact = exact bs _ all h.0; text = search rules }

@@ -4,23 +4,19 @@ use Rattle.printing.proofs.Heads.{heads_more, heads_end}
 use Rattle.printing.proofs.games.put_exprs.Goals as goal
 
 pub loop-pending-init : goal.loop-pending-init
-loop-pending-init c = λ es rest e f n. left_all c.args.game.now c.args.from c.args.count c.args.at c.args.out.now es rest e f n
+loop-pending-init c = (omega arith, left_all c.args.writer.now)
+
+pub overflow_add-pending : goal.overflow_add-pending
+overflow_add-pending c = omega (arith, c.put_head-parts.ensures.few, c.loop-pending.invariant.0)
 
 pub loop-pending-preserved : goal.loop-pending-preserved
-loop-pending-preserved c =
-    λ es rest e f n.
-    heads_more c.args.game.now c.loop-pending.i c.loop-pending.pending c.loop-pending.place c.loop-pending.out c.args.at
-    c.args.out.now es rest c.put_head-head.new.out c.put_head-head.result c.loop-pending-test.true c.put_head-head.ensures.text
-    (c.loop-pending.invariant es rest e f n)
+loop-pending-preserved c = (
+  omega (arith, c.put_head-parts.ensures.shorter, c.loop-pending.invariant.0),
+  λ es rest e f n. heads_more c.loop-pending-test.true c.put_head-parts.ensures.text (c.loop-pending.invariant.1 es rest e f n),
+)
 
-pub returns-else-pending-saturating_sub : goal.returns-else-pending-saturating_sub
-returns-else-pending-saturating_sub c =
-    λ es rest e f n.
-    heads_end c.args.game.now c.loop-pending.i c.loop-pending.pending c.loop-pending.place c.loop-pending.out c.args.at
-    c.args.out.now es rest (λ h. omega arith) (c.loop-pending.invariant es rest e f n)
+pub returns-else-pending-rest : goal.returns-else-pending-rest
+returns-else-pending-rest c = λ es rest e f n. heads_end (λ h. omega arith) (c.loop-pending.invariant.1 es rest e f n)
 
 pub returns-after-loop-pending : goal.returns-after-loop-pending
-returns-after-loop-pending c =
-    λ es rest e f n.
-    heads_end c.args.game.now c.loop-pending.i c.loop-pending.pending c.loop-pending.place c.loop-pending.out c.args.at
-    c.args.out.now es rest (λ h. omega arith) (c.loop-pending.invariant es rest e f n)
+returns-after-loop-pending c = λ es rest e f n. heads_end (λ h. omega arith) (c.loop-pending.invariant.1 es rest e f n)

@@ -1,23 +1,37 @@
-use Rattle.std.proofs.Common.{get_or, refl, arith}
-use Rattle.printing.proofs.Heads.{number_headed, kind_headed}
+use Rattle.std.proofs.Common.{length, sym, ap, ◌∙◌, arith}
+use Rattle.std.proofs.lemmas.List.{length-drop}
+use Rattle.wire.specs.Kinds.{kind_number}
+use Rattle.printing.proofs.Heads.{number_headed, kind_headed, no_kind}
+use Rattle.printing.proofs.KindNumbers.{not_num}
 use Rattle.printing.proofs.games.put_head.Goals as goal
 
-pub returns-then-kind-eq0 : goal.returns-then-kind-eq0
-returns-then-kind-eq0 c = record {
-  text =
-      λ e rest.
-      number_headed c.args.game.now c.args.from c.args.at c.put_number.result c.args.out.now c.put_number.new.out rest e
-      c.two_bytes.result c.if-kind-eq0.true c.two_bytes.ensures c.put_number.ensures;
-  after = (omega arith, omega arith);
+pub returns-in_default : goal.returns-in_default
+returns-in_default c = record {
+  text = λ e rest stands fits. absurd (no_kind c.in_default.ensures c.first_number-byte.ensures.number e rest stands);
+  shorter = λ h. omega (arith, ap length c.first_number-byte.ensures.rest, length-drop 1 c.args.game.now);
   few = omega arith;
 }
 
-pub returns : goal.returns
-returns c = record {
+pub returns-in-Num : goal.returns-in-Num
+returns-in-Num c = record {
   text =
-      λ e rest stands fits.
-      kind_headed c.args.game.now c.args.from c.args.at c.put_kind.result c.args.out.now c.put_kind.new.out rest e
-      (get_or c.args.game.now c.args.from 0) c.arity_of.result c.if-kind-eq0.false refl c.arity_of.ensures.known c.put_kind.ensures stands;
-  after = (omega arith, omega arith);
-  few = c.arity_of.ensures.few;
+      number_headed c.first_number-byte.ensures.rest c.from.result
+      (sym c.first_number-byte.ensures.number ∙ sym c.in-Ok.ensures ∙ ap kind_number c.in-Num.is)
+      (c.from.ensures ∙ c.two_bytes.ensures.lowest) c.after.ensures c.number.ensures;
+  shorter =
+      λ h.
+      omega (arith, ap length c.after.ensures, length-drop 2 c.first_number-byte.result.1.now, ap length c.first_number-byte.ensures.rest, length-drop 1 c.args.game.now);
+  few = omega arith;
 }
+
+pub returns-in_default-kind : goal.returns-in_default-kind
+returns-in_default-kind c =
+    let some = not_num c.in-Ok.kind c.in_default-kind.not-Num in
+    record {
+      text =
+          λ e rest stands fits.
+          kind_headed c.first_number-byte.ensures.rest (kind_number c.in-Ok.kind) c.arity.result some
+          (c.in-Ok.ensures ∙ c.first_number-byte.ensures.number) (c.arity.ensures.known some) (rw c.word_of.ensures at c.word.ensures) e rest stands;
+      shorter = λ h. omega (arith, ap length c.first_number-byte.ensures.rest, length-drop 1 c.args.game.now);
+      few = c.arity.ensures.few;
+    }
