@@ -1,3 +1,3 @@
 mod Refusing
 mod Words
-mod Meaning
+pub mod Meaning

@@ -16,7 +16,7 @@ use Rattle.text.proofs.RawLines.{raw_reads, longer_of_both}
 use Rattle.commands.specs.Lines.{stands_for, line_call, Means, LineCallMeans}
 
 -- no call has more than 21 bytes
-few_fields : (k : ℕ) → 1 + 4 * field_count k ≤ 21
+pub few_fields : (k : ℕ) → 1 + 4 * field_count k ≤ 21
 few_fields k = grind (arith, nat_tests)
 
 too_long : (k : ℕ) (bs : List ℕ) → 21 ≤ length bs → parse_call (k ∷ bs) ≡ cond (ltb 6 k) (Err 0) (Err (1 + 4 * field_count k))
@@ -29,7 +29,7 @@ too_long k bs l =
     ∙ ap Err most)
 
 -- so 22 bytes tell whether more of them are a call
-first_tell : (n : ℕ) (bs : List ℕ) → 21 ≤ n → parse_call (take (suc n) bs) ≡ parse_call bs
+pub first_tell : (n : ℕ) (bs : List ℕ) → 21 ≤ n → parse_call (take (suc n) bs) ≡ parse_call bs
 first_tell n [] l = refl
 first_tell n (k ∷ bs) l =
     ⊎_elim (λ h. too_long k (take n bs) (omega (arith, length-take-le n bs (omega arith))) ∙ sym (too_long k bs (omega arith)))

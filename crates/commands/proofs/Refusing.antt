@@ -2,6 +2,7 @@
 use Rattle.std.proofs.Common.{◌≡◌, ℕ, ◌<◌, ◌≤◌, sym, refl, ap, ◌∙◌, arith}
 use Rattle.std.proofs.lemmas.Bool.Decides.{nat_tests}
 use Rattle.rules.specs.declared.Limits.{Limits}
+use Rattle.rules.specs.declared.Refusal.{Refusal}
 use Rattle.rules.specs.declared.Call.{Call}
 use Rattle.rules.specs.declared.Call.TheVariants.{Sit, Play, Ticks, See, May, Back, CanForce}
 use Rattle.rules.specs.Calls.{State, answer, refusal, refusal_place, no_calls, refused}
@@ -10,23 +11,5 @@ pub refuses_all : (c : Call) (l : Limits) (s : State) → answer no_calls l s c 
 unfolding answer refusal
 refuses_all c l s = refl
 
-pub refuses_at : (c : Call) (k : ℕ) → k ≡ refusal_place c 2 → (l : Limits) (s : State) → answer no_calls l s c ≡ refused (record { number = 2; place = k })
-refuses_at c k e l s = refuses_all c l s ∙ ap (λ i. refused (record { number = 2; place = i })) (sym e)
-
-pub deep_place : (t m k d : ℕ) → 64 < d → 3 ≡ refusal_place (CanForce t m k d) 2
-unfolding refusal_place
-deep_place t m k d h = grind (arith, nat_tests)
-
-pub flat_place : (t m k d : ℕ) → d ≤ 64 → 0 ≡ refusal_place (CanForce t m k d) 2
-unfolding refusal_place
-flat_place t m k d h = grind (arith, nat_tests)
-
-pub other_place : (c : Call) → ((t m k d : ℕ) → c ≡ CanForce t m k d → ⊥) → 0 ≡ refusal_place c 2
-unfolding refusal_place
-other_place (Sit n) h = refl
-other_place (Play t m v) h = refl
-other_place (Ticks n) h = refl
-other_place (See t) h = refl
-other_place (May t) h = refl
-other_place (Back t n) h = refl
-other_place (CanForce t m k d) h = absurd (h t m k d refl)
+pub refuses_so : (c : Call) (f : Refusal) → f.number ≡ 2 → f.place ≡ refusal_place c 2 → (l : Limits) (s : State) → answer no_calls l s c ≡ refused f
+refuses_so c f n e l s = refuses_all c l s ∙ ap (λ i. refused (record { number = 2; place = i })) (sym e) ∙ ap (λ k. refused (record { number = k; place = f.place })) (sym n)

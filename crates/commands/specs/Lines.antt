@@ -4,21 +4,13 @@ use Rattle.rules.specs.declared.Limits.{Limits}
 use Rattle.rules.specs.Calls.{State, Answer, refused, no_calls, answer}
 use Rattle.rules.specs.declared.Call.{Call}
 use Rattle.wire.specs.Calls.{parse_call}
+use Rattle.text.specs.Endings.{letters}
 use Rattle.text.specs.Grammar.{IsLine, ReadsAs, passed_over}
 use Rattle.text.specs.Reader.{call_of}
 use Rattle.text.specs.Raw.{IsRaw, IsEither}
 use Rattle.text.specs.RawReader.{raw_of}
 use Rattle.commands.specs.declared.lines.Reply.{Reply}
 use Rattle.commands.specs.declared.lines.Reply.TheVariants.{Nothing, NoCall, Refused}
-
--- where a line's own letters end: before its LF, and before a CR in front of that
-abbrev pub end_of_line : List ℕ → ℕ
-end_of_line bs =
-    cond (nat_le 1 (length bs) && slice_index bs (length bs - 1) == 10)
-    (cond (nat_le 2 (length bs) && slice_index bs (length bs - 2) == 13) (length bs - 2) (length bs - 1)) (length bs)
-
-abbrev pub letters : List ℕ → List ℕ
-letters bs = take (end_of_line bs) bs
 
 -- the call that a line stands for: the one that the bytes are which it says, or its own. Where there is none: the place in the bytes that ceases to be a call,
 -- or, of a line that says no bytes either, the larger of the two places

@@ -2,12 +2,9 @@
 ghost use Rattle.std.specs.Prelude.{◌≡◌, length};
 ghost use Rattle.rules.specs.declared.Limits.{Limits};
 ghost use Rattle.rules.specs.Calls.{State, no_calls, answer, refused};
-ghost use Rattle.commands.specs.Lines.{end_of_line, line_call, LineCallMeans, Replies};
+ghost use Rattle.commands.specs.Lines.{line_call, LineCallMeans, Replies};
 
 use rules::{Call, Refusal};
-
-// The deepest search that a call may ask for.
-const DEEPEST: u32 = 64;
 
 #[derive(Clone, Copy, PartialEq, Eq, Debug)]
 pub enum Reply {
@@ -18,29 +15,11 @@ pub enum Reply {
     Refused(Refusal),
 }
 
-// Where a line's own letters end: before its LF, and before a CR that stands in front of that.
-fn end_of_line(line: &[u8]) -> usize
-    ensures { result ≡ end_of_line line.now }
-{
-    let n = line.len();
-    if n == 0 || line[n - 1] != b'\n' {
-        return n;
-    }
-    if n >= 2 && line[n - 2] == b'\r' {
-        return n - 2;
-    }
-    n - 1
-}
-
 // The answer of a server that can do no call.
 fn refuse(call: Call) -> Refusal
     ensures { (l : Limits) (s : State) → answer no_calls l s call ≡ refused result }
 {
-    let place = match call {
-        Call::CanForce { within, .. } => if within > DEEPEST { 3 } else { 0 },
-        _ => 0,
-    };
-    Refusal { number: 2, place }
+    call.not_done()
 }
 
 // The call that a line stands for, by the bytes that it says or by its words.
@@ -62,8 +41,7 @@ fn read_line(line: &[u8]) -> Result<Call, usize>
 pub fn reply_to(line: &[u8]) -> Reply
     ensures { (l : Limits) (s : State) → Replies l s line.now result }
 {
-    let end = end_of_line(line);
-    let letters = &line[0..end];
+    let letters = text::letters(line);
     if text::is_passed_over(letters) {
         return Reply::Nothing;
     }

@@ -16,12 +16,10 @@ use Rattle.text.specs.Raw.{RawReads, Kept}
 use Rattle.text.specs.declared.raw.Raw.{Raw}
 use Rattle.text.proofs.Calls.{one_call}
 use Rattle.text.proofs.RawLines.{one_bytes, not_both_sorts, longer_of_both}
+use Rattle.commands.proofs.Meaning.{few_fields, first_tell}
+use Rattle.server_commands.specs.declared.kept.CallBytes.{CallBytes}
 use Rattle.server_commands.specs.Lines.{Says, ReadAsSaid}
 use Rattle.server_commands.specs.declared.lines.Asked.TheVariants as asked
-
--- no call has more than 21 bytes
-few_fields : (k : ℕ) → 1 + 4 * field_count k ≤ 21
-few_fields k = grind (arith, nat_tests)
 
 pub call_few : (c : Call) → length (call_bytes c) ≤ 21
 call_few c = omega (arith, length_call c, few_fields (call_number c))
@@ -50,14 +48,14 @@ BytesRead s r = (said : Result (List ℕ) ℕ) × RawReads s said × Kept said r
 
 -- a line that says bytes
 pub by_bytes :
-    (s : List ℕ) (raw : Raw) (n : ℕ) → n ≡ min raw.count 22 → BytesRead s (Ok raw)
-    → Says s (asked.Call (record { bytes = raw.bytes; count = n }))
-by_bytes s raw n e h = by_said h.0 h.1 h.2
+    (s : List ℕ) (raw : Raw) (k : CallBytes) → k.bytes ≡ raw.bytes → k.count ≡ min raw.count 22 → BytesRead s (Ok raw) → Says s (asked.Call k)
+by_bytes s raw kept same e h = by_said h.0 h.1 h.2
   where
     by_said :
-        (said : Result (List ℕ) ℕ) → RawReads s said → Kept said (Ok raw) → Says s (asked.Call (record { bytes = raw.bytes; count = n }))
+        (said : Result (List ℕ) ℕ) → RawReads s said → Kept said (Ok raw) → Says s (asked.Call kept)
     by_said (Ok bs) is k =
-        inr (bs, is, (e ∙ omega (arith, k.0, length-take 22 bs), kept_part 22 bs raw.bytes raw.count n e k.1))
+        inr
+        (bs, is, (e ∙ omega (arith, k.0, length-take 22 bs), ap (take kept.count) same ∙ kept_part 22 bs raw.bytes raw.count kept.count e k.1))
     by_said (Err m) is k = absurd k
 
 -- one of neither sort
@@ -67,23 +65,6 @@ by_neither s m n r e h k = subst (λ x. Says s (asked.NoCall x)) (sym e) (longer
     by_said : (said : Result (List ℕ) ℕ) → RawReads s said → Kept said (Err m) → RawReads s (Err m)
     by_said (Ok bs) is k = absurd k
     by_said (Err j) is k = subst (λ x. RawReads s (Err x)) (sym k) is
-
--- more than 21 bytes are no call
-too_long : (k : ℕ) (bs : List ℕ) → 21 ≤ length bs → parse_call (k ∷ bs) ≡ cond (ltb 6 k) (Err 0) (Err (1 + 4 * field_count k))
-unfolding parse_call
-too_long k bs l =
-    let most : min (suc (length bs)) (1 + 4 * field_count k) ≡ 1 + 4 * field_count k = omega (arith, few_fields k) in
-    ap (λ r. cond (ltb 6 k) (Err 0) r)
-    (cond-false (eqb (suc (length bs)) (1 + 4 * field_count k)) (Ok (kind-call k (fields_at (k ∷ bs) 1 (field_count k))))
-    (Err (min (suc (length bs)) (1 + 4 * field_count k))) (ne_eqb (suc (length bs)) (1 + 4 * field_count k) (λ e. omega (arith, few_fields k)))
-    ∙ ap Err most)
-
--- so 22 bytes tell whether more of them are a call
-first_tell : (n : ℕ) (bs : List ℕ) → 21 ≤ n → parse_call (take (suc n) bs) ≡ parse_call bs
-first_tell n [] l = refl
-first_tell n (k ∷ bs) l =
-    ⊎_elim (λ h. too_long k (take n bs) (omega (arith, length-take-le n bs (omega arith))) ∙ sym (too_long k bs (omega arith)))
-    (λ h. ap (λ xs. parse_call (k ∷ xs)) (take_all n bs h)) (cases_lt n (length bs))
 
 -- the numbers of pieces that are written fit
 abbrev Fitting : List Piece → Type 0

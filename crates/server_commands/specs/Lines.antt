@@ -2,20 +2,12 @@
 use Rattle.std.specs.Prelude.{◌≡◌, ℕ, ◌-◌, ◌≤◌, cond, ◌&&◌, ◌⊎◌, List, length, take, Ok, Err, MatchBool, ◌==◌, nat_le, slice_index}
 use Rattle.rules.specs.declared.Call.{Call}
 use Rattle.wire.specs.Calls.{call_bytes, parse_call}
+use Rattle.text.specs.Endings.{letters}
 use Rattle.text.specs.Grammar.{IsLine, ReadsAs, passed_over}
 use Rattle.text.specs.Raw.{IsRaw, IsEither}
-use Rattle.server_commands.specs.declared.lines.CallBytes.{CallBytes}
+use Rattle.server_commands.specs.declared.kept.CallBytes.{CallBytes}
 use Rattle.server_commands.specs.declared.lines.Asked.{Asked}
 use Rattle.server_commands.specs.declared.lines.Asked.TheVariants as asked
-
--- where a line's own letters end: before its LF, and before a CR in front of that
-abbrev pub end_of_line : List ℕ → ℕ
-end_of_line bs =
-    cond (nat_le 1 (length bs) && slice_index bs (length bs - 1) == 10)
-    (cond (nat_le 2 (length bs) && slice_index bs (length bs - 2) == 13) (length bs - 2) (length bs - 1)) (length bs)
-
-abbrev pub letters : List ℕ → List ℕ
-letters bs = take (end_of_line bs) bs
 
 -- the bytes that are kept
 abbrev pub held : CallBytes → List ℕ
@@ -35,12 +27,6 @@ Says s (asked.Call k) = ((c : Call) × IsLine c s × Holds (call_bytes c) k) ⊎
 -- what a line asks: nothing if it is passed over
 abbrev pub Asks : List ℕ → Asked → Type 0
 Asks line r = MatchBool (passed_over (letters line)) (r ≡ asked.Nothing) (Says (letters line) r)
-
--- no more is kept than has room
-abbrev pub Few : Asked → Type 0
-Few asked.Nothing = Unit {0}
-Few (asked.NoCall n) = Unit {0}
-Few (asked.Call k) = k.count ≤ 22
 
 -- what is kept of a line is read as the line's call, or as the bytes are that the line says
 abbrev pub ReadAsSaid : Type 0

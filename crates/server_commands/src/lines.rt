@@ -1,19 +1,10 @@
 // What a line of a calls file asks.
-ghost use Rattle.std.specs.Prelude.{◌≡◌, ◌≤◌};
+ghost use Rattle.std.specs.Prelude.{◌≡◌};
 ghost use Rattle.wire.specs.Calls.{call_bytes};
-ghost use Rattle.server_commands.specs.Lines.{end_of_line, Holds, Says, Asks, Few, ReadAsSaid};
+ghost use Rattle.server_commands.specs.Lines.{Holds, Says, Asks, ReadAsSaid};
 
+use super::kept::{CallBytes, MOST};
 use rules::Call;
-
-// How many bytes are kept. No call has more than 21, so these are enough to tell a call from what is longer.
-const MOST: usize = 22;
-
-// The bytes of a call, or of what stands in place of one: so many of them, from the first on.
-#[derive(Clone, Copy)]
-pub struct CallBytes {
-    pub bytes: [u8; 22],
-    pub count: usize,
-}
 
 #[derive(Clone, Copy)]
 pub enum Asked {
@@ -24,24 +15,9 @@ pub enum Asked {
     Call(CallBytes),
 }
 
-// Where a line's own letters end: before its LF, and before a CR that stands in front of that.
-fn end_of_line(line: &[u8]) -> usize
-    ensures { result ≡ end_of_line line.now }
-{
-    let n = line.len();
-    if n == 0 || line[n - 1] != b'\n' {
-        return n;
-    }
-    if n >= 2 && line[n - 2] == b'\r' {
-        return n - 2;
-    }
-    n - 1
-}
-
 // The bytes of a call, kept.
 fn keep_call(call: Call) -> CallBytes
-    ensures means { Holds (call_bytes call) result }
-    ensures few { result.count ≤ 22 }
+    ensures { Holds (call_bytes call) result }
 {
     let mut kept = [0; MOST];
     let count = wire::write_call(call, &mut kept).unwrap_or(0);
@@ -50,8 +26,7 @@ fn keep_call(call: Call) -> CallBytes
 
 // What letters say that are not passed over: bytes, or a call by its words.
 fn read_letters(letters: &[u8]) -> Asked
-    ensures means { Says letters.now result }
-    ensures few { Few result }
+    ensures { Says letters.now result }
 {
     match text::read_bytes(letters) {
         Ok(raw) => {
@@ -68,11 +43,9 @@ fn read_letters(letters: &[u8]) -> Asked
 
 // What a line asks, which may still have its LF or CR LF at the end.
 pub fn read_line(line: &[u8]) -> Asked
-    ensures means { Asks line.now result }
-    ensures few { Few result }
+    ensures { Asks line.now result }
 {
-    let end = end_of_line(line);
-    let letters = &line[0..end];
+    let letters = text::letters(line);
     if text::is_passed_over(letters) {
         return Asked::Nothing;
     }

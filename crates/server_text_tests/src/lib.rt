@@ -4,7 +4,8 @@
 #[cfg(test)]
 mod tests {
     use rules::Limits;
-    use server_commands::{Asked, Fault, Request, read_line, read_request};
+    use commands::Fault;
+    use server_commands::{Asked, Request, read_line, read_request};
     use std::alloc::{AllocError, Global};
     use std::test::Fail;
 

@@ -3,3 +3,4 @@ pub mod Reader
 pub mod Raw
 pub mod RawReader
 pub mod Theorems
+pub mod Endings

@@ -29,8 +29,10 @@ ghost use Rattle.text.specs.Theorems.{OneCallALine, PrintedReadsBack, OneBytesAL
 
 use rules::{Call, Move};
 
+mod endings;
 mod raw;
 
+pub use endings::letters;
 pub use raw::{Raw, read_bytes};
 
 fn is_blank(b: u8) -> bool
