@@ -11,8 +11,5 @@ fn run(rt: &HostRuntime) -> anyhow::Result<()> {
 
 // What goes wrong is told where it happens, so that an error only makes status 1.
 fn main(rt: HostRuntime) -> ExitCode {
-    match run(&rt) {
-        Ok(()) => ExitCode::SUCCESS,
-        Err(_) => ExitCode::FAILURE,
-    }
+    run(&rt).map_or(ExitCode::FAILURE, |()| ExitCode::SUCCESS)
 }

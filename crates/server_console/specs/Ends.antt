@@ -1,7 +1,7 @@
 -- When a program must end with an error. Assumes nothing: these are definitions.
 use Rattle.std.specs.Prelude.{Bool, true, false, not, Ok, Err, Result}
 use Rattle.rules.specs.Bounds.{good_limits}
-use Rattle.server_commands.specs.declared.options.Fault.{Fault}
+use Rattle.commands.specs.declared.options.Fault.{Fault}
 use Rattle.server_commands.specs.declared.options.Request.{Request}
 use Rattle.server_commands.specs.declared.options.Request.TheVariants.{Help, Run, Print, Bytes}
 

@@ -3,10 +3,11 @@
 ghost use Rattle.std.specs.Prelude.{◌≡◌, IfOk};
 ghost use Rattle.server_console.specs.Files.{in_bytes, small_enough, Served};
 
-use game_text::{Expected, Fault, line_and_column, read_game};
+use anyhow::anyhow;
+use game_text::{Fault, line_and_column, read_game};
 use printing::print_game;
-use std::fs;
 use std::io::{BufWriter, Write};
+use std::{fmt, fs};
 use wire::{Excess, GameSize, check_game, first_excess};
 
 // A file whose first byte is below this is a game in byte form: such a byte begins no text.
@@ -21,38 +22,23 @@ const FEW_MOVES: u32 = 256;
 fn is_in_bytes(file: &[u8]) -> bool
     ensures { result ≡ in_bytes file.now }
 {
-    file.len() > 0 && file[0] < FIRST_OF_TEXT
-}
-
-// What could have come, in words.
-fn words_for(expected: Expected) -> &'static str {
-    match expected {
-        Expected::ThePlayers => "the word 'players'",
-        Expected::PlayerCount => "the number of players, at most 255,",
-        Expected::TheCells => "the word 'cells'",
-        Expected::CellRuleOrOver => "the next cell's number, at most 65535, or 'rule' or 'over'",
-        Expected::RuleOrOver => "'rule' or 'over'",
-        Expected::Number => "a number, at most 65535,",
-        Expected::TheMay => "the word 'may'",
-        Expected::AnExpression => "an expression",
-        Expected::SetRuleOrOver => "'set', 'rule' or 'over'",
-        Expected::SetOrOver => "'set' or 'over'",
-        Expected::TheOver => "the word 'over'",
-        Expected::TheGain => "the word 'gain'",
-        Expected::TheEnd => "the end of the game",
-    }
+    file.first().is_some_and(|&b| b < FIRST_OF_TEXT)
 }
 
 // One sentence on standard error, and an error for `main` to end with.
-pub(crate) fn fail(rt: &HostRuntime, sentence: &str) -> anyhow::Error {
+pub(crate) fn fail<D: fmt::Display + Drop>(rt: &HostRuntime, sentence: D) -> anyhow::Error {
     match eprintln!(rt; "{sentence}") {
-        Ok(()) => anyhow::Error::msg(sentence),
+        Ok(()) => anyhow!("{sentence}"),
         Err(e) => e.into(),
     }
 }
 
 // A refusal at opening, and a sentence.
-pub(crate) fn refuse(rt: &HostRuntime, place: u32, sentence: &str) -> anyhow::Error {
+pub(crate) fn refuse<D: fmt::Display + Drop>(
+    rt: &HostRuntime,
+    place: u32,
+    sentence: D,
+) -> anyhow::Error {
     match println!(rt; "refused 3 at {place}") {
         Ok(()) => fail(rt, sentence),
         Err(e) => e.into(),
@@ -62,37 +48,34 @@ pub(crate) fn refuse(rt: &HostRuntime, place: u32, sentence: &str) -> anyhow::Er
 fn read_file(rt: &HostRuntime, path: &str) -> anyhow::Result<Vec<u8>> {
     match fs::read(rt, path) {
         Ok(file) => Ok(file),
-        Err(e) => {
-            let sentence = format!(in rt.alloc(); "the game file '{path}' can't be read: {e}")?;
-            Err(fail(rt, sentence.as_str()))
-        }
+        Err(e) => Err(fail(
+            rt,
+            format_args!("the game file '{path}' can't be read: {e}"),
+        )),
     }
 }
 
 // Where a text can't be read on, by line and column from 1.
-fn unreadable(
-    rt: &HostRuntime,
-    path: &str,
-    text: &[u8],
-    fault: Fault,
-) -> anyhow::Result<anyhow::Error> {
+fn unreadable(rt: &HostRuntime, path: &str, text: &[u8], fault: Fault) -> anyhow::Error {
     let (line, column) = line_and_column(text, fault.place);
-    let wanted = words_for(fault.expected);
-    let sentence = format!(in rt.alloc();
-        "{path}, line {line}, column {column}: {wanted} is expected here"
-    )?;
-    Ok(refuse(rt, 0, sentence.as_str()))
+    let wanted = fault.expected;
+    refuse(
+        rt,
+        0,
+        format_args!("{path}, line {line}, column {column}: {wanted} is expected here"),
+    )
 }
 
 // The bytes of a file, if they have the form of a game.
 fn in_form(rt: &HostRuntime, path: &str, file: Vec<u8>) -> anyhow::Result<Vec<u8>> {
-    if let Err(refusal) = check_game(file.as_slice()) {
-        if refusal.place == 0 {
-            let sentence = format!(in rt.alloc(); "{path}: this is no game in byte form")?;
-            return Err(refuse(rt, 0, sentence.as_str()));
-        }
+    match check_game(file.as_slice()) {
+        Err(refusal) if refusal.place == 0 => Err(refuse(
+            rt,
+            0,
+            format_args!("{path}: this is no game in byte form"),
+        )),
+        _ => Ok(file),
     }
-    Ok(file)
 }
 
 // The bytes of the game in a file. A text's bytes are at most twice as many as its own.
@@ -107,7 +90,7 @@ fn load(rt: &HostRuntime, path: &str) -> anyhow::Result<Vec<u8>> {
             game.truncate(size);
             Ok(game)
         }
-        Err(fault) => Err(unreadable(rt, path, file.as_slice(), fault)?),
+        Err(fault) => Err(unreadable(rt, path, file.as_slice(), fault)),
     }
 }
 
@@ -119,52 +102,24 @@ fn is_served(size: GameSize, large: bool) -> bool
 }
 
 // Why a good game is not served: the limit, and both numbers.
-fn too_large(rt: &HostRuntime, path: &str, size: GameSize) -> anyhow::Result<anyhow::Error> {
-    let heap = rt.alloc();
-    let cells = size.cells;
-    let moves = size.moves;
-    let sentence = if cells > FEW_CELLS {
-        format!(in heap;
-            "{path}: the game has {cells} cells, and at most {FEW_CELLS} are served without --large"
-        )?
-    } else {
-        format!(in heap;
+fn too_large(rt: &HostRuntime, path: &str, size: GameSize) -> anyhow::Error {
+    let GameSize { cells, moves, .. } = size;
+    if cells > FEW_CELLS {
+        return refuse(
+            rt,
+            1,
+            format_args!(
+                "{path}: the game has {cells} cells, and at most {FEW_CELLS} are served without --large"
+            ),
+        );
+    }
+    refuse(
+        rt,
+        1,
+        format_args!(
             "{path}: the game has {moves} possible moves, and at most {FEW_MOVES} are served without --large"
-        )?
-    };
-    Ok(refuse(rt, 1, sentence.as_str()))
-}
-
-// Why no server takes a game: which limit, what there is of it, and the most that is served.
-fn not_good(rt: &HostRuntime, path: &str, excess: Excess) -> anyhow::Result<anyhow::Error> {
-    let heap = rt.alloc();
-    let sentence = match excess {
-        Excess::Players(n) => format!(in heap;
-            "{path}: the game has {n} players, and 1 to 4 are served"
-        )?,
-        Excess::Cells(n) => format!(in heap;
-            "{path}: the game has {n} cells, and 1 to 256 are served"
-        )?,
-        Excess::Rules(n) => format!(in heap;
-            "{path}: the game has {n} rules, and at most 64 are served"
-        )?,
-        Excess::Moves(n) => format!(in heap;
-            "{path}: the game has {n} possible moves, and at most 4096 are served"
-        )?,
-        Excess::Parts(n) => format!(in heap;
-            "{path}: the game has {n} parts, and at most 16384 are served"
-        )?,
-        Excess::FirstBound { rule, bound } => format!(in heap;
-            "{path}: rule {rule}, counted from 0, has the first bound {bound}, and at most 256 is served"
-        )?,
-        Excess::SecondBound { rule, bound } => format!(in heap;
-            "{path}: rule {rule}, counted from 0, has the second bound {bound}, and at most 256 is served"
-        )?,
-        Excess::Deep => format!(in heap;
-            "{path}: an expression is more than 32 deep, and 32 is the most that is served"
-        )?,
-    };
-    Ok(refuse(rt, 1, sentence.as_str()))
+        ),
+    )
 }
 
 // The bytes of the game in a file, if it is served: a good game, and a small one unless large ones are asked for.
@@ -173,39 +128,39 @@ pub(crate) fn open_game(rt: &HostRuntime, path: &str, large: bool) -> anyhow::Re
 {
     let game = load(rt, path)?;
     match check_game(game.as_slice()) {
-        Ok(size) => {
-            if !is_served(size, large) {
-                return Err(too_large(rt, path, size)?);
-            }
-            Ok(game)
-        }
+        Ok(size) if is_served(size, large) => Ok(game),
+        Ok(size) => Err(too_large(rt, path, size)),
         Err(_) => {
+            // which limit, what there is of it, and the most that is served
             let excess = first_excess(game.as_slice()).unwrap_or(Excess::Deep);
-            Err(not_good(rt, path, excess)?)
+            Err(refuse(rt, 1, format_args!("{path}: {excess}")))
         }
     }
+}
+
+// Bytes on standard output.
+fn write_out(rt: &HostRuntime, bytes: &[u8]) -> anyhow::Result<()> {
+    let mut out = BufWriter::new(rt.alloc(), rt.stdout())?;
+    out.write_all(bytes)?;
+    out.flush()?;
+    Ok(())
 }
 
 // A game in byte form.
 pub(crate) fn write_game(rt: &HostRuntime, path: &str) -> anyhow::Result<()> {
     let game = load(rt, path)?;
-    let mut out = BufWriter::new(rt.alloc(), rt.stdout())?;
-    out.write_all(game.as_slice())?;
-    out.flush()?;
-    Ok(())
+    write_out(rt, game.as_slice())
 }
 
 // A game in plain text. It has at most ten times as many letters as bytes.
 pub(crate) fn show_game(rt: &HostRuntime, path: &str) -> anyhow::Result<()> {
     let game = load(rt, path)?;
     let mut text: Vec<u8> = vec![in rt.alloc(); 0; game.as_slice().len().saturating_mul(10)]?;
-    let Some(size) = print_game(game.as_slice(), text.as_mut_slice()) else {
-        let sentence = format!(in rt.alloc(); "{path}: this is no game in byte form")?;
-        return Err(refuse(rt, 0, sentence.as_str()));
-    };
-    text.truncate(size);
-    let mut out = BufWriter::new(rt.alloc(), rt.stdout())?;
-    out.write_all(text.as_slice())?;
-    out.flush()?;
-    Ok(())
+    match print_game(game.as_slice(), text.as_mut_slice()) {
+        Some(size) => {
+            text.truncate(size);
+            write_out(rt, text.as_slice())
+        }
+        None => Err(refuse(rt, 0, format_args!("{path}: this is no game in byte form"))),
+    }
 }

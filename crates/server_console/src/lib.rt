@@ -4,26 +4,18 @@
 ghost use Rattle.std.specs.Prelude.{◌≡◌, ◌<◌, true, false, map, is_err, string_bytes};
 ghost use Rattle.server_commands.specs.Options.{request_of};
 ghost use Rattle.server_console.specs.Ends.{refused_words};
-ghost use Rattle.rules.specs.Bounds.{good_limits};
 
 mod games;
 
+use commands::{Fault, first_too_many};
 use games::{fail, open_game, refuse, show_game, write_game};
 use printing::print_answer;
 use rules::Limits;
-use commands::Fault;
 use server_commands::{Asked, Request, read_line, read_request};
 use session::{call, needs, open};
 use std::fs::File;
 use std::io;
 use std::io::{BufRead, BufReader, BufWriter, Write};
-
-// The largest limits that a server may be opened with.
-const MOST_TABLES: u32 = 1024;
-
-const MOST_MOVES: u32 = 1000000;
-
-const MOST_POSITIONS: u32 = 8192;
 
 const HELP: &str = "answer [--tables N] [--moves N] [--positions N] [--large] GAME [CALLS]
 answer --print GAME
@@ -107,13 +99,9 @@ fn answer_call(
         bytes,
         server.answer.as_mut_slice(),
     );
-    let written = size.min(server.answer.as_slice().len());
-    let answer = &server.answer.as_slice()[0..written];
-    let letters = match print_answer(answer, server.line.as_mut_slice()) {
-        Some(n) => n.min(server.line.as_slice().len()),
-        None => 0,
-    };
-    out.write_all(&server.line.as_slice()[0..letters])?;
+    let answer = server.answer.get(..size).unwrap_or(&[]);
+    let letters = print_answer(answer, server.line.as_mut_slice()).unwrap_or(0);
+    out.write_all(server.line.get(..letters).unwrap_or(&[]))?;
     out.write_all(b"\n")
 }
 
@@ -125,10 +113,7 @@ fn answer_line(
     match read_line(line) {
         Asked::Nothing => Ok(()),
         Asked::NoCall(place) => writeln!(out, "refused 1 at {place}"),
-        Asked::Call(asked) => {
-            let count = asked.count.min(asked.bytes.len());
-            answer_call(server, &asked.bytes[0..count], out)
-        }
+        Asked::Call(asked) => answer_call(server, asked.as_slice(), out),
     }
 }
 
@@ -157,10 +142,10 @@ fn answer_lines<R: io::Read + Drop>(
 fn answer_file(rt: &HostRuntime, server: &mut Server, calls: &str) -> anyhow::Result<()> {
     match File::open(rt, calls) {
         Ok(file) => answer_input(rt, server, file),
-        Err(e) => {
-            let sentence = format!(in rt.alloc(); "the calls file '{calls}' can't be read: {e}")?;
-            Err(fail(rt, sentence.as_str()))
-        }
+        Err(e) => Err(fail(
+            rt,
+            format_args!("the calls file '{calls}' can't be read: {e}"),
+        )),
     }
 }
 
@@ -171,45 +156,40 @@ fn answer_input<R: io::Read + Drop>(
 ) -> anyhow::Result<()> {
     match answer_lines(rt, server, input) {
         Ok(()) => Ok(()),
-        Err(e) => {
-            let sentence = format!(in rt.alloc(); "calls can't be read, or answers written: {e}")?;
-            Err(fail(rt, sentence.as_str()))
-        }
-    }
-}
-
-fn complain(rt: &HostRuntime, words: &[String], fault: Fault) -> anyhow::Result<()>
-    ensures { is_err result ≡ true }
-{
-    let heap = rt.alloc();
-    match fault {
-        Fault::UnknownOption(i) => {
-            let word = word_at(words, i);
-            let sentence = format!(in heap; "there is no option '{word}'; see answer --help")?;
-            Err(fail(rt, sentence.as_str()))
-        }
-        Fault::BadNumber(i) => {
-            let word = word_at(words, i);
-            let sentence = format!(in heap; "'{word}' is no number up to 4294967295")?;
-            Err(fail(rt, sentence.as_str()))
-        }
-        Fault::ExtraFile(i) => {
-            let word = word_at(words, i);
-            let sentence = format!(in heap;
-                "the file '{word}' is one too many; see answer --help"
-            )?;
-            Err(fail(rt, sentence.as_str()))
-        }
-        Fault::MissingNumber => Err(fail(rt, "the last option lacks its number")),
-        Fault::MissingGame => Err(fail(rt, "no game file is named; see answer --help")),
+        Err(e) => Err(fail(
+            rt,
+            format_args!("calls can't be read, or answers written: {e}"),
+        )),
     }
 }
 
 fn word_at(words: &[String], i: usize) -> &str {
-    if i < words.len() {
-        words[i].as_str()
-    } else {
-        ""
+    words.get(i).map_or("", |word| word.as_str())
+}
+
+// What is wrong with the words of the command line.
+fn complain(rt: &HostRuntime, words: &[String], fault: Fault) -> anyhow::Error {
+    match fault {
+        Fault::UnknownOption(i) => {
+            let word = word_at(words, i);
+            fail(
+                rt,
+                format_args!("there is no option '{word}'; see answer --help"),
+            )
+        }
+        Fault::BadNumber(i) => {
+            let word = word_at(words, i);
+            fail(rt, format_args!("'{word}' is no number up to 4294967295"))
+        }
+        Fault::ExtraFile(i) => {
+            let word = word_at(words, i);
+            fail(
+                rt,
+                format_args!("the file '{word}' is one too many; see answer --help"),
+            )
+        }
+        Fault::MissingNumber => fail(rt, "the last option lacks its number"),
+        Fault::MissingGame => fail(rt, "no game file is named; see answer --help"),
     }
 }
 
@@ -235,7 +215,7 @@ pub fn answer(rt: &HostRuntime, words: &[String]) -> anyhow::Result<()>
     ensures { refused_words (request_of (map string_bytes words.now)) ≡ true → is_err result ≡ true }
 {
     match read_request(words) {
-        Err(fault) => complain(rt, words, fault),
+        Err(fault) => Err(complain(rt, words, fault)),
         Ok(Request::Help) => {
             rt.println(HELP)?;
             Ok(())
@@ -250,28 +230,10 @@ pub fn answer(rt: &HostRuntime, words: &[String]) -> anyhow::Result<()>
                 calls,
             },
         ) => {
-            check_limits(rt, limits)?;
+            if let Some(excess) = first_too_many(limits) {
+                return Err(refuse(rt, 1, excess));
+            }
             serve(rt, words, limits, large, game, calls)
         }
     }
-}
-
-fn check_limits(rt: &HostRuntime, limits: Limits) -> anyhow::Result<()>
-    ensures { good_limits limits ≡ false → is_err result ≡ true }
-{
-    check_limit(rt, "tables", limits.tables, MOST_TABLES)?;
-    check_limit(rt, "moves", limits.moves, MOST_MOVES)?;
-    check_limit(rt, "positions", limits.positions, MOST_POSITIONS)
-}
-
-fn check_limit(rt: &HostRuntime, name: &str, n: u32, most: u32) -> anyhow::Result<()>
-    ensures { most < n → is_err result ≡ true }
-{
-    if n <= most {
-        return Ok(());
-    }
-    let sentence = format!(in rt.alloc();
-        "{n} {name} are more than a server has, which is {most}"
-    )?;
-    Err(refuse(rt, 1, sentence.as_str()))
 }
