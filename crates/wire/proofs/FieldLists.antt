@@ -28,10 +28,6 @@ field_is bs i =
     let d : bytes_value (take 1 (drop (i + 3) bs)) ≡ get_or bs (i + 3) 0 = value_more bs 0 (i + 3) ∙ omega arith in
     omega arith
 
-pub field_past : (bs : List ℕ) (i : ℕ) → length bs ≤ i → field_at bs i ≡ 0
-unfolding field_at bytes_value
-field_past bs i h = rw (drop_all i bs h)
-
 pub below_take : (b n : ℕ) (bs : List ℕ) → all_below b bs ≡ true → all_below b (take n bs) ≡ true
 unfolding all_below
 below_take b zero bs h = refl

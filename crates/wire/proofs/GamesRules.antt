@@ -1,5 +1,5 @@
 -- Rules one after the other, and what they have together.
-use Rattle.std.proofs.Common.{◌≡◌, ℕ, zero, suc, ◌+◌, nat_lt, Bool, true, false, cond, not, ◌&&◌, ◌||◌, List, [], ◌∷◌, length, Some, None, Option, sym, refl, ap, ◌∙◌, add-zero, zero-add, arith}
+use Rattle.std.proofs.Common.{◌≡◌, ℕ, zero, suc, ◌+◌, nat_lt, Bool, true, false, cond, not, ◌&&◌, ◌||◌, List, [], ◌∷◌, length, Some, None, Option, sym, refl, ap, ◌∙◌, add-zero, arith}
 use Rattle.std.specs.Option.{option_or}
 use Rattle.std.proofs.Math.Bool.{or-false}
 use Rattle.rules.specs.Rules.{Rule}
@@ -16,15 +16,6 @@ use Rattle.wire.proofs.GamesHead.{none_read, was_read}
 -- what was read is added to what was found before
 abbrev pub added : Totals → ℕ → Parsed (List Rule) → Parsed Totals
 added t k p = as_read (λ us. plus t (totals_of k us)) p
-
-abbrev pub nothing : Totals
-nothing = record { effects = 0; moves = 0; parts = 0; bound = None; deep = false }
-
-pub added_start : (p : Parsed (List Rule)) → added nothing 0 p ≡ as_read (totals_of 0) p
-added_start unreadable = refl
-added_start (got us r) =
-    let t = totals_of 0 us in
-    λ i. got (record { effects = zero-add t.effects i; moves = zero-add t.moves i; parts = zero-add t.parts i; bound = t.bound; deep = t.deep }) r
 
 or_none : {X : Type 0} (o : Option X) → option_or o None ≡ o
 or_none None = refl

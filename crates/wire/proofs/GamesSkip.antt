@@ -1,5 +1,5 @@
 -- Passing over expressions by the count of those still to come.
-use Rattle.std.proofs.Common.{◌≡◌, ℕ, suc, ◌+◌, ◌<◌, ◌≤◌, List, [], ◌∷◌, ◌++◌, length, take, drop, sym, refl, ap, ◌∙◌, zero-add, arith}
+use Rattle.std.proofs.Common.{◌≡◌, ℕ, suc, ◌+◌, ◌<◌, ◌≤◌, List, [], ◌∷◌, ◌++◌, length, take, drop, sym, refl, ap, ◌∙◌, arith}
 use Rattle.std.proofs.lemmas.List.{length-take-le, take-append-drop}
 use Rattle.rules.specs.Rules.{Expr}
 use Rattle.rules.specs.Bounds.{expr_parts}
@@ -12,10 +12,6 @@ use Rattle.wire.proofs.GamesHead.{head_parts, by_parts}
 -- the parts of what was read, counted on from t
 abbrev pub tallied : ℕ → Parsed (List Expr) → Parsed ℕ
 tallied t p = as_read (λ es. t + exprs_parts es) p
-
-pub tallied_start : (p : Parsed (List Expr)) → tallied 0 p ≡ as_read exprs_parts p
-tallied_start (got es r) = ap (λ n. got n r) (zero-add (exprs_parts es))
-tallied_start unreadable = refl
 
 parts_append : (es fs : List Expr) → exprs_parts (es ++ fs) ≡ exprs_parts es + exprs_parts fs
 unfolding exprs_parts

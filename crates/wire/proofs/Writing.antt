@@ -68,21 +68,6 @@ written_before i j xs ys old at room =
 pub written_front : (bs old : List ℕ) → length bs ≤ length old → written 0 bs old ≡ bs ++ drop (length bs) old
 written_front bs old h = written_is 0 bs old (omega arith) ∙ ap (λ k. bs ++ drop k old) (zero-add (length bs))
 
-pub written_push :
-    (i j x : ℕ) (xs old : List ℕ) → j ≡ i + length xs → j < length old → set (written i xs old) j x ≡ written i (xs ++ (x ∷ [])) old
-written_push i j x xs old at room =
-    written_byte j x (written i xs old) (omega (arith, length_written i xs old)) ∙ written_then i j xs (x ∷ []) old at (omega arith)
-
--- four bytes set one after the other
-pub written_four :
-    (old : List ℕ) (i a b c d : ℕ) → i + 4 ≤ length old
-    → set (set (set (set old i a) (i + 1) b) (i + 2) c) (i + 3) d ≡ written i (a ∷ b ∷ c ∷ d ∷ []) old
-written_four old i a b c d room =
-    ap (λ l. set (set (set l (i + 1) b) (i + 2) c) (i + 3) d) (written_byte i a old (omega arith))
-    ∙ ap (λ l. set (set l (i + 2) c) (i + 3) d) (written_push i (i + 1) b (a ∷ []) old refl (omega arith))
-    ∙ ap (λ l. set l (i + 3) d) (written_push i (i + 2) c (a ∷ b ∷ []) old refl (omega arith))
-    ∙ written_push i (i + 3) d (a ∷ b ∷ c ∷ []) old refl (omega arith)
-
 -- fields written after fields
 pub fields_then :
     (i j : ℕ) (ns ms old : List ℕ) → j ≡ i + 4 * length ns → j + 4 * length ms ≤ length old

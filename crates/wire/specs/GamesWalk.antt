@@ -42,6 +42,7 @@ read_head (zero ∷ x ∷ []) = unreadable
 read_head (zero ∷ x ∷ y ∷ bs) = got (alone (Num (bytes_value (x ∷ y ∷ [])))) bs
 read_head (suc k ∷ bs) = cond (nat_lt k 12) (got (kind_after k) bs) unreadable
 
+-- how many parts an expression of a kind has
 abbrev pub arity_of : Kind → ℕ
 arity_of k = k.arity
 
@@ -54,6 +55,7 @@ behind l (got es r) = cond (within_levels l es) (Some r) None
 abbrev pub rule_bound : ℕ → ℕ → ℕ → Option Excess
 rule_bound n a b = cond (nat_lt 256 a) (Some (FirstBound n a)) (cond (nat_lt 256 b) (Some (SecondBound n b)) None)
 
+-- what two parts of a game have together
 abbrev pub plus : Totals → Totals → Totals
 plus a b = record {
   effects = a.effects + b.effects;
@@ -63,6 +65,7 @@ plus a b = record {
   deep = a.deep || b.deep;
 }
 
+-- that fits
 abbrev pub CanAdd : Totals → Totals → Type 0
 CanAdd a b = (a.effects + b.effects < 2 ^ 32) × (a.moves + b.moves < 2 ^ 64) × (a.parts + b.parts < 2 ^ 64)
 
@@ -82,6 +85,7 @@ totals_of n us = record {
   deep = not (shallow_rules us);
 }
 
+-- what a rule with the number n has
 abbrev pub one_total : ℕ → Rule → Totals
 one_total n u = totals_of n (u ∷ [])
 

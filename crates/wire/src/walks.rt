@@ -53,7 +53,7 @@ pub(super) struct Found {
 // The number in the first two bytes.
 fn read_word(bytes: &[u8]) -> Option<(u16, &[u8])>
     ensures read { found result ≡ read_number 2 bytes.now }
-    ensures few { IfSome result (λ word. (word.0 < 65536) × (length word.1.now ≤ length bytes.now)) }
+    ensures few { IfSome result (λ word. length word.1.now ≤ length bytes.now) }
 {
     let (word, rest) = bytes.split_first_chunk::<2>()?;
     Some((u16::from_le_bytes(*word), rest))

@@ -25,18 +25,13 @@ mod tests {
     fn verdict(game: &[u8]) -> u32 {
         match check_game(game) {
             Ok(_) => 2,
-            Err(refusal) => if refusal.number == 3 {
-                refusal.place
-            } else {
-                9
-            },
+            Err(refusal) if refusal.number == 3 => refusal.place,
+            Err(_) => 9,
         }
     }
 
     fn push_two(game: &mut Vec<u8>, n: u16) -> Result<(), AllocError> {
-        game.push((n % 256) as u8)?;
-        game.push((n / 256) as u8)?;
-        Ok(())
+        game.extend_from_slice(&n.to_le_bytes())
     }
 
     // Players, cells that hold 0, and a count of rules that are to come.
@@ -102,10 +97,7 @@ mod tests {
 
     #[test]
     fn pile(rt: HostRuntime) -> Result<(), Fail> {
-        let size = match check_game(&PILE) {
-            Ok(size) => size,
-            Err(_) => return Err(Fail::new("the pile game is good")),
-        };
+        let size = check_game(&PILE).map_err(|_| Fail::new("the pile game is good"))?;
         assert_eq!(rt; size.players, 2);
         assert_eq!(rt; size.cells, 2);
         assert_eq!(rt; size.rules, 1);
@@ -265,6 +257,82 @@ mod tests {
         assert_eq!(rt;
             first_excess(deep(heap, 33)?.as_slice()),
             Some(Excess::Deep)
+        );
+        Ok(())
+    }
+
+    // Whether a limit that is broken is told of by this sentence.
+    fn is_told(heap: Global, excess: Excess, sentence: &str) -> Result<bool, AllocError> {
+        let told = format!(in heap; "{excess}")?;
+        Ok(told.as_str() == sentence)
+    }
+
+    #[test]
+    fn sentences(rt: HostRuntime) -> Result<(), Fail> {
+        let heap = rt.alloc();
+        let first = Excess::FirstBound {
+            rule: 1,
+            bound: 257,
+        };
+        let second = Excess::SecondBound {
+            rule: 0,
+            bound: 300,
+        };
+        assert!(rt;
+            is_told(
+                heap,
+                Excess::Players(5),
+                "the game has 5 players, and 1 to 4 are served"
+            )?
+        );
+        assert!(rt;
+            is_told(
+                heap,
+                Excess::Cells(0),
+                "the game has 0 cells, and 1 to 256 are served"
+            )?
+        );
+        assert!(rt;
+            is_told(
+                heap,
+                Excess::Rules(65),
+                "the game has 65 rules, and at most 64 are served"
+            )?
+        );
+        assert!(rt;
+            is_told(
+                heap,
+                Excess::Moves(4097),
+                "the game has 4097 possible moves, and at most 4096 are served"
+            )?
+        );
+        assert!(rt;
+            is_told(
+                heap,
+                Excess::Parts(16385),
+                "the game has 16385 parts, and at most 16384 are served"
+            )?
+        );
+        assert!(rt;
+            is_told(
+                heap,
+                first,
+                "rule 1, counted from 0, has the first bound 257, and at most 256 is served"
+            )?
+        );
+        assert!(rt;
+            is_told(
+                heap,
+                second,
+                "rule 0, counted from 0, has the second bound 300, and at most 256 is served"
+            )?
+        );
+        assert!(rt;
+            is_told(
+                heap,
+                Excess::Deep,
+                "an expression is more than 32 deep, and 32 is the most that is served"
+            )?
         );
         Ok(())
     }

@@ -1,5 +1,4 @@
 use Rattle.std.proofs.Common.{◌+◌, ◌*◌, get_or, sym, refl, ap, ◌∙◌, arith}
-use Rattle.std.proofs.lemmas.List.{take_all}
 use Rattle.wire.specs.Fields.{fields_bytes, written}
 use Rattle.wire.proofs.Numbers.{le_four}
 use Rattle.wire.proofs.FieldLists.{length_fields_bytes}
@@ -22,8 +21,3 @@ loop-i-preserved c =
     let n = get_or ns i 0 in
     fields_more c.args.bytes.now ns c.loop-i.bytes c.put_bytes.new.bytes at i (at + 4 * i) (omega arith) (omega arith) refl c.loop-i.invariant
     (c.put_bytes.ensures ∙ ap (λ l. written (at + 4 * i) l c.loop-i.bytes) (c.to_le_bytes.ensures ∙ le_four n))
-
-pub returns : goal.returns
-returns c =
-    c.loop-i.invariant
-    ∙ ap (λ l. written c.args.at (fields_bytes l) c.args.bytes.now) (take_all c.loop-i.i c.args.numbers.now (omega arith))

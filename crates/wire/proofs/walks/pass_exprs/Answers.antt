@@ -2,7 +2,7 @@ use Rattle.std.proofs.Common.{◌≡◌, ℕ, suc, ◌+◌, ◌-◌, sym, ap, �
 use Rattle.wire.specs.Exprs.{got, read_exprs}
 use Rattle.wire.specs.GamesWalk.{found, exprs_parts}
 use Rattle.wire.proofs.GamesHead.{no_expression}
-use Rattle.wire.proofs.GamesSkip.{tallied, tallied_start, too_few, tallied_step}
+use Rattle.wire.proofs.GamesSkip.{tallied, too_few, tallied_step}
 use Rattle.wire.proofs.walks.pass_exprs.Goals as goal
 
 pub returns-then-rest-pending-clause-read : goal.returns-then-rest-pending-clause-read
@@ -17,9 +17,6 @@ returns-in_err-own-clause-read c =
     ap found c.from_residual.ensures
     ∙ sym (ap (tallied l.parts) (ap (λ n. read_exprs n l.rest.now) more ∙ no_expression l.rest.now (l.pending - 1) c.in_err-own.ensures.read))
     ∙ l.invariant.read
-
-pub loop-pending-init : goal.loop-pending-init
-loop-pending-init c = record { read = tallied_start _; few = omega arith }
 
 pub loop-pending-preserved : goal.loop-pending-preserved
 loop-pending-preserved c =

@@ -1,4 +1,4 @@
-use Rattle.std.proofs.Common.{◌≡◌, ◌+◌, ◌*◌, ◌≤◌, Bool, not, ◌||◌, ◌∷◌, is_some, sym, refl, ap, ◌∙◌, arith, mul-le-mul}
+use Rattle.std.proofs.Common.{◌≡◌, ◌+◌, ◌*◌, Bool, not, ◌||◌, ◌∷◌, is_some, sym, refl, ap, ◌∙◌, arith}
 use Rattle.std.proofs.lemmas.Grind.{common_steps}
 use Rattle.wire.specs.Exprs.{got, read_exprs}
 use Rattle.wire.specs.GamesWalk.{found, as_read, behind, rule_bound, one_total}
@@ -56,14 +56,3 @@ returns-clause-read c =
     ∙ rule_found c.args.bytes.now c.in_ok-first.rest.now c.in_ok-first.first c.in_ok-first.ensures.read c.in_ok-second.guard.now
     c.in_ok-second.second c.in_ok-second.ensures.read c.in_ok-guard_parts.rest.now g c.in_ok-guard_parts.ensures.read r₄ n count
     c.in_ok-effect_parts.rest.now x c.in_ok-effect_parts.ensures.read c.args.rule deep refl
-
-pub returns-clause-few : goal.returns-clause-few
-returns-clause-few c =
-    let first : c.from-first.result ≤ 65535 = omega (arith, c.from-first.ensures, c.in_ok-first.ensures.few.0) in
-    let second : c.from-second.result ≤ 65535 = omega (arith, c.from-second.ensures, c.in_ok-second.ensures.few.0) in
-    let product : c.from-first.result * c.from-second.result ≤ 65535 * 65535 = mul-le-mul first second in
-    record {
-      effects = grind (arith, common_steps);
-      moves = omega arith;
-      parts = grind (arith, common_steps);
-    }

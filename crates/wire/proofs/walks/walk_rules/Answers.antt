@@ -1,22 +1,8 @@
-use Rattle.std.proofs.Common.{◌≡◌, ℕ, suc, ◌+◌, ◌-◌, sym, ap, ◌∙◌, rules, arith}
+use Rattle.std.proofs.Common.{◌≡◌, ℕ, suc, ◌+◌, ◌-◌, sym, ap, ◌∙◌, arith}
 use Rattle.wire.specs.Games.{read_rules}
 use Rattle.wire.specs.GamesWalk.{found}
-use Rattle.wire.proofs.GamesRules.{nothing, added, added_start, added_step, added_end, no_rule}
+use Rattle.wire.proofs.GamesRules.{added, added_step, added_end, no_rule}
 use Rattle.wire.proofs.walks.walk_rules.Goals as goal
-
-pub loop-rule-init : goal.loop-rule-init
-loop-rule-init c =
-    let bs = c.args.bytes.now in
-    let all : c.args.count - 0 ≡ c.args.count = omega arith in
-    let start : c.default-totals.result ≡ nothing = search rules in
-    record {
-      read = (λ i. added (start i) 0 (read_rules (all i) bs)) ∙ added_start (read_rules c.args.count bs);
-      few = record {
-        effects = omega (arith, ap (λ t. t.effects) start);
-        moves = omega (arith, ap (λ t. t.moves) start);
-        parts = omega (arith, ap (λ t. t.parts) start);
-      };
-    }
 
 pub returns-in_err-one-clause-read : goal.returns-in_err-one-clause-read
 returns-in_err-one-clause-read c =
