@@ -35,9 +35,9 @@ struct EffectRow {
 }
 
 // How many words a game begins with, and how many each rule has.
-const HEADER: usize = 5;
+pub(super) const HEADER: usize = 5;
 
-const RULE_WORDS: usize = 5;
+pub(super) const RULE_WORDS: usize = 5;
 
 // The words that the game begins with.
 pub fn read_game(rules: &[u32]) -> GameRow
