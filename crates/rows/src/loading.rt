@@ -130,7 +130,7 @@ fn load_rules<'a>(
     Some(end)
 }
 
-// Writes the cells at the start, of two bytes each, from the sixth word on.
+// Writes the cells at the start, of two bytes each, from the sixth word on. By their places: through iter_mut a proof knows only lengths.
 fn load_cells(bytes: &[u8], count: usize, rules: &mut [u32])
     requires read { 3 + 2 * count ≤ length bytes.now }
     requires room { 5 + count ≤ length rules.old }
