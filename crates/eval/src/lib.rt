@@ -65,7 +65,7 @@ fn row_of(kind: u32, a: u32, b: u32, c: u32) -> Row
     }
 }
 
-// The row at `at`: one test serves its four words.
+// The row at `at`: one test serves its four words. By index: a slice pattern over `get` made evaluation slower by 6 %.
 fn row_at(rules: &[u32], at: u32) -> Row
     ensures { result ≡ row_at rules.now at }
 {
@@ -238,6 +238,7 @@ fn load_within(bytes: &[u8], levels: u32, rules: &mut [u32], at: u32) -> Result<
     let mut places = [0; 3];
     let mut used = 1;
     let mut next = at;
+    // By index: through iter_mut a proof knows only lengths.
     for j in 0..kind.arity() {
         let part = load_within(&bytes[used..], levels - 1, rules, next)?;
         places[j] = part.root;

@@ -104,9 +104,9 @@ mod tests {
     fn loads(rt: HostRuntime) -> Result<(), Fail> {
         let bytes = [12, 10, 2, 1, 0, 1, 0, 5, 0, 2, 0, 0, 44, 1, 4, 99];
         let mut rules = [7u32; 44];
-        let Ok(Loaded { used, root }) = load_expr(&bytes, &mut rules, 4) else {
-            return Err(Fail::new("not loaded"));
-        };
+        let Loaded { used, root } = load_expr(&bytes, &mut rules, 4).map_err(|_| Fail::new(
+            "not loaded",
+        ))?;
         assert!(rt; used == 15 && root == 36);
         assert!(rt; rules[3] == 7 && rules[40] == 7);
         assert!(rt; eval(&rules, root, &[0, 9], 8, 0, 5) == 302);
@@ -120,9 +120,9 @@ mod tests {
         let mut rules = [0u32; 136];
         let mut bytes = [1u8; 34];
         bytes[32] = 2;
-        let Ok(Loaded { used, root }) = load_expr(&bytes, &mut rules, 0) else {
-            return Err(Fail::new("32 deep"));
-        };
+        let Loaded { used, root } = load_expr(&bytes, &mut rules, 0).map_err(|_| Fail::new(
+            "32 deep",
+        ))?;
         assert!(rt; used == 33 && root == 128);
         assert!(rt; eval(&rules, root, &[1, 2, 0], 0, 0, 0) == 2);
         bytes[32] = 1;

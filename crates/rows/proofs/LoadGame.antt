@@ -149,50 +149,52 @@ module _ (bs : List ℕ) (z : GameSize) (g : Game) (reads : parse_game bs ≡ So
   all = ap words_needed is ∙ omega (arith, game_takes g, cells_is, rules_is, last_parts g)
 
   -- there are bytes for its cells and the count of its rules
-  pub no_bytes : length bs ≤ 3 + 2 * z.cells → ⊥
+  pub no_bytes : length bs < 3 + 2 * z.cells + 1 → ⊥
   no_bytes h = omega (arith, parts.some, cells_is)
 
-  module _ (xs : List ℕ) (room : length xs ≡ words_needed z) where
+  module _ (xs qs : List ℕ) (room : length xs ≡ words_needed z) (small : length xs ≤ 4294967295) (tail : qs ≡ drop (3 + 2 * z.cells + 1) bs) where
     -- its rules are there, and have room
-    rules_there : RulesThere (drop (3 + 2 * z.cells + 1) bs) z.rules (5 + z.cells + 5 * z.rules) (length xs) g.rules parts.rest
+    rules_there : RulesThere qs z.rules (5 + z.cells + 5 * z.rules) (length xs) g.rules parts.rest
     rules_there = record {
-      reads = (λ j. read_rules (rules_is j) (drop (3 + 2 * cells_is j + 1) bs)) ∙ parts.reads_rules;
+      reads = ap (read_rules z.rules) tail ∙ (λ j. read_rules (rules_is j) (drop (3 + 2 * cells_is j + 1) bs)) ∙ parts.reads_rules;
       fit = (good_last g good).0;
       enough = omega (arith, all);
+      small = small;
     }
 
     -- so they are not refused
-    pub no_rules : (ys : List ℕ) → PlacesRules bs (3 + 2 * z.cells + 1) z.rules xs ys (5 + z.cells) (5 + z.cells + 5 * z.rules) None → ⊥
-    no_rules ys refused = refused g.rules parts.rest rules_there
+    pub no_rules : (ys : List ℕ) → PlacesRules qs z.rules xs ys (5 + z.cells) (5 + z.cells + 5 * z.rules) None → ⊥
+    no_rules ys refused = refused g.rules parts.rest (omega arith) rules_there
 
     module _ (ys : List ℕ) (d : End) (size : length ys ≡ length xs)
-        (loaded : PlacesRules bs (3 + 2 * z.cells + 1) z.rules xs ys (5 + z.cells) (5 + z.cells + 5 * z.rules) (Some d))
+        (loaded : PlacesRules qs z.rules xs ys (5 + z.cells) (5 + z.cells + 5 * z.rules) (Some d))
       where
         -- its rules are placed
-        rules : Placed (List Rule) (λ m. rules_at m (5 + z.cells) z.rules) g.rules (rules_words g.rules) bs parts.rest (5 + z.cells) (5 * z.rules)
+        rules : Placed (List Rule) (λ m. rules_at m (5 + z.cells) z.rules) g.rules (rules_words g.rules) parts.rest (5 + z.cells) (5 * z.rules)
             (5 + z.cells + 5 * z.rules) xs ys d
-        rules = loaded g.rules parts.rest rules_there
+        rules = loaded g.rules parts.rest (omega arith) rules_there
 
         -- its last two expressions are there, and have room
-        last_there : ExprsThere (drop d.from bs) 2 d.next (length ys) (g.terminal ∷ g.payoff ∷ []) []
+        last_there : ExprsThere d.rest.now 2 d.next (length ys) (g.terminal ∷ g.payoff ∷ []) []
         last_there = record {
           reads = ap (read_exprs 2) (sym rules.left) ∙ parts.reads_last;
           fit = (good_last g good).1;
           enough = omega (arith, all, rules.ends);
+          small = omega arith;
         }
 
         -- so they are not refused
-        pub no_last : (zs : List ℕ) → PlacesExprs bs d.from 2 ys zs 3 d.next None → ⊥
-        no_last zs refused = refused (g.terminal ∷ g.payoff ∷ []) [] last_there
+        pub no_last : (zs : List ℕ) → PlacesExprs d.rest.now 2 ys zs 3 d.next None → ⊥
+        no_last zs refused = refused (g.terminal ∷ g.payoff ∷ []) [] (omega (arith, rules.ends)) last_there
 
         -- with its first words written, the game is there, and stays
         pub game_filled :
-            (zs ws : List ℕ) (e : End) → PlacesExprs bs d.from 2 ys zs 3 d.next (Some e)
+            (zs ws : List ℕ) (e : End) → PlacesExprs d.rest.now 2 ys zs 3 d.next (Some e)
             → ((k : ℕ) → k < z.cells → get_or xs (5 + k) 0 ≡ word_at bs (3 + 2 * k)) → HeaderWritten z.players z.cells z.rules zs ws
             → (vs : List ℕ) → SameBetween 0 (words_needed z) vs ws → game_at vs ≡ g
         unfolding game_at exprs_at
         game_filled zs ws e more cells w vs same =
-            let last = more (g.terminal ∷ g.payoff ∷ []) [] last_there in
+            let last = more (g.terminal ∷ g.payoff ∷ []) [] (omega (arith, rules.ends)) last_there in
             let far : d.next ≤ words_needed z = omega (arith, all, rules.ends) in
             let near : 5 + z.cells + 5 * z.rules ≤ d.next = omega (arith, rules.ends) in
             let end : e.next ≤ words_needed z = omega (arith, all, rules.ends, last.ends) in

@@ -2,7 +2,7 @@
 use Rattle.std.proofs.Common.{◌≡◌, ℕ, suc, ◌+◌, ◌-◌, ◌*◌, ◌<◌, ◌≤◌, true, List, [], ◌∷◌, ◌++◌, length, get_or, drop, set, Some, None, Option, Ok, Err, Result, sym, refl, ap, ◌∙◌, subst, arith}
 use Rattle.std.proofs.lemmas.Bool.{and_parts}
 use Rattle.std.specs.Result.{result_ok}
-use Rattle.std.proofs.lemmas.List.{get_or-set_same, get_or-set_other, drop-drop, length-set}
+use Rattle.std.proofs.lemmas.List.{get_or-set_same, get_or-set_other, length-set}
 use Rattle.rules.specs.Rules.{Expr}
 use Rattle.rules.specs.Bounds.{fits_depth, expr_parts}
 use Rattle.wire.specs.Exprs.{got, part, read_exprs}
@@ -15,15 +15,15 @@ use Rattle.eval.specs.declared.LoadError.{LoadError}
 use Rattle.eval.specs.Load.{Stands, LoadsExpr}
 use Rattle.eval.proofs.Callers.{is_loaded}
 use Rattle.rows.specs.declared.loading.End.{End}
-use Rattle.rows.specs.Load.{exprs_at, Placed, Places, ExprsThere, EndsInside, PlacesExprs}
+use Rattle.rows.specs.Load.{exprs_at, Placed, Places, ExprsThere, PlacesExprs}
 
 -- two things in turn: the words of the second follow those of the first
 pub placed_both :
-    (A B C : Type 0) (m : List ℕ → A) (n : List ℕ → B) (means : List ℕ → C) (a : A) (b : B) (c : C) (u v words : ℕ) (bs p q : List ℕ)
+    (A B C : Type 0) (m : List ℕ → A) (n : List ℕ → B) (means : List ℕ → C) (a : A) (b : B) (c : C) (u v words : ℕ) (p q : List ℕ)
     (table w x wide at : ℕ) (xs ys zs : List ℕ) (d e : End) → ((k : List ℕ) → m k ≡ a → n k ≡ b → means k ≡ c) → words ≡ u + v → wide ≡ w + x
-    → table + wide ≤ at → Placed A m a u bs p table w at xs ys d → Placed B n b v bs q (table + w) x d.next ys zs e
-    → Placed C means c words bs q table wide at xs zs e
-placed_both A B C m n means a b c u v words bs p q table w x wide at xs ys zs d e is sum width before one two = record {
+    → table + wide ≤ at → Placed A m a u p table w at xs ys d → Placed B n b v q (table + w) x d.next ys zs e
+    → Placed C means c words q table wide at xs zs e
+placed_both A B C m n means a b c u v words p q table w x wide at xs ys zs d e is sum width before one two = record {
   left = two.left;
   ends = omega (arith, one.ends, two.ends);
   below = λ k h. two.below k (omega arith) ∙ one.below k h;
@@ -36,24 +36,24 @@ placed_both A B C m n means a b c u v words bs p q table w x wide at xs ys zs d 
 
 -- one expression, whose place is noted
 pub one_placed :
-    (bs : List ℕ) (from at table used root : ℕ) (xs ys : List ℕ) (e : Expr) (q : List ℕ) → table < at → at ≤ length ys → q ≡ drop (from + used) bs
-    → ((k : ℕ) → k < at → get_or ys k 0 ≡ get_or xs k 0) → Stands (λ f. fits_depth f 32) expr_at (drop from bs) at xs ys used root e
-    → Placed Expr (λ m. expr_at m (get_or m table 0)) e (4 * expr_parts e) bs q table 1 at xs (set ys table root) (record { from = from + used; next = root + 4 })
-one_placed bs from at table used root xs ys e q lt le left before s = record {
+    (bs : List ℕ) (at table used root : ℕ) (xs ys : List ℕ) (e : Expr) (q : List ℕ) (d : End) → table < at → at ≤ length ys → q ≡ d.rest.now
+    → d.next ≡ root + 4 → ((k : ℕ) → k < at → get_or ys k 0 ≡ get_or xs k 0) → Stands (λ f. fits_depth f 32) expr_at bs at xs ys used root e
+    → Placed Expr (λ m. expr_at m (get_or m table 0)) e (4 * expr_parts e) q table 1 at xs (set ys table root) d
+one_placed bs at table used root xs ys e q d lt le left end before s = record {
   left = left;
-  ends = s.ends;
+  ends = end ∙ s.ends;
   below = λ k h. get_or-set_other ys table k root 0 (omega arith) ∙ before k (omega arith);
   between = λ k g h. get_or-set_other ys table k root 0 (omega arith) ∙ before k h;
   stays = λ zs there here.
       ap (expr_at zs) (there table (omega arith) (omega arith) ∙ get_or-set_same ys table root 0 (omega arith))
-      ∙ s.stays zs (λ k g h. here k g h ∙ get_or-set_other ys table k root 0 (omega arith));
+      ∙ s.stays zs (λ k g h. here k g (omega arith) ∙ get_or-set_other ys table k root 0 (omega arith));
 }
 
 -- nothing was read, and nothing is written
 pub nothing_placed :
-    (A : Type 0) (means : List ℕ → A) (a : A) (words : ℕ) (bs q : List ℕ) (from table wide at : ℕ) (xs : List ℕ) → ((m : List ℕ) → means m ≡ a) → words ≡ 0
-    → q ≡ drop from bs → Placed A means a words bs q table wide at xs xs (record { from = from; next = at })
-nothing_placed A means a words bs q from table wide at xs is z left = record {
+    (A : Type 0) (means : List ℕ → A) (a : A) (words : ℕ) (q : List ℕ) (table wide : ℕ) (xs : List ℕ) (e : End) → ((m : List ℕ) → means m ≡ a) → words ≡ 0
+    → q ≡ e.rest.now → Placed A means a words q table wide e.next xs xs e
+nothing_placed A means a words q table wide xs e is z left = record {
   left = left;
   ends = omega arith;
   below = λ k h. refl;
@@ -62,12 +62,12 @@ nothing_placed A means a words bs q from table wide at xs is z left = record {
 }
 
 -- no expression is to come
-pub no_exprs : (bs : List ℕ) (from n table at : ℕ) (xs : List ℕ) → n ≡ 0 → PlacesExprs bs from n xs xs table at (Some (record { from = from; next = at }))
+pub no_exprs : (n table : ℕ) (xs : List ℕ) (e : End) → n ≡ 0 → PlacesExprs e.rest.now n xs xs table e.next (Some e)
 unfolding exprs_at read_exprs exprs_parts
-no_exprs bs from n table at xs z es q there =
-    let e = same_got [] es (drop from bs) q (sym (ap (λ k. read_exprs k (drop from bs)) z) ∙ there.reads) in
-    nothing_placed (List Expr) (λ m. exprs_at m table n) es (4 * exprs_parts es) bs q from table n at xs (λ m. ap (exprs_at m table) z ∙ e.0)
-    (omega (arith, ap exprs_parts e.0)) (sym e.1)
+no_exprs n table xs e z es q before there =
+    let f = same_got [] es e.rest.now q (sym (ap (λ k. read_exprs k e.rest.now) z) ∙ there.reads) in
+    nothing_placed (List Expr) (λ m. exprs_at m table n) es (4 * exprs_parts es) q table n xs e (λ m. ap (exprs_at m table) z ∙ f.0)
+    (omega (arith, ap exprs_parts f.0)) (sym f.1)
 
 -- the first expression, and then the others
 pub record Split (bs : List ℕ) (n : ℕ) (es : List Expr) (q : List ℕ) : Type 0 where
@@ -110,19 +110,14 @@ exprs_more : (m : List ℕ) (i n : ℕ) → 0 < n → exprs_at m i n ≡ expr_at
 unfolding exprs_at
 exprs_more m i n some = let e : n ≡ suc (n - 1) = omega arith in ap (exprs_at m i) e
 
--- what `ok` finds is what was loaded
-pub as_ok : (r : Result Loaded LoadError) (l : Loaded) → Some l ≡ result_ok r → r ≡ Ok l
-as_ok (Ok k) l h = cc
-as_ok (Err e) l h = cc
-
 -- expressions that can be read, are not too deep and have room
 module _
-    (bs : List ℕ) (from n at : ℕ) (qs xs ys : List ℕ) (some : 0 < n) (size : length ys ≡ length xs) (small : length xs ≤ 4294967295)
-    (tail : qs ≡ drop from bs) (es : List Expr) (q : List ℕ) (there : ExprsThere (drop from bs) n at (length xs) es q)
+    (bs : List ℕ) (n table at : ℕ) (xs ys : List ℕ) (some : 0 < n) (size : length ys ≡ length xs) (es : List Expr) (q : List ℕ)
+    (before : table + n ≤ at) (there : ExprsThere bs n at (length xs) es q)
   where
     -- the first expression, and the others
-    parted : Split (drop from bs) (n - 1) es q
-    parted = split (drop from bs) n es q some there.reads
+    parted : Split bs (n - 1) es q
+    parted = split bs n es q some there.reads
 
     -- neither is too deep
     fit : (fits_depth parted.first 32 ≡ true) × (within_levels 33 parted.others ≡ true)
@@ -134,54 +129,63 @@ module _
 
     -- the first is loaded
     first_loaded :
-        (r : Result Loaded LoadError) → LoadsExpr qs at xs ys r
-        → (l : Loaded) × (r ≡ Ok l) × (parted.rest ≡ drop l.used qs) × Stands (λ f. fits_depth f 32) expr_at qs at xs ys l.used l.root parted.first
-    first_loaded r l =
-        is_loaded qs at xs ys r parted.first parted.rest l (ap (read_exprs 1) tail ∙ parted.reads_first) fit.0 (omega (arith, count, there.enough))
+        (r : Result Loaded LoadError) → LoadsExpr bs at xs ys r
+        → (l : Loaded) × (r ≡ Ok l) × (parted.rest ≡ drop l.used bs) × Stands (λ f. fits_depth f 32) expr_at bs at xs ys l.used l.root parted.first
+    first_loaded r l = is_loaded bs at xs ys r parted.first parted.rest l parted.reads_first fit.0 (omega (arith, count, there.enough, there.small))
 
     -- so it is not refused
-    pub not_refused : (r : Result Loaded LoadError) → None ≡ result_ok r → LoadsExpr qs at xs ys r → ⊥
+    pub not_refused : (r : Result Loaded LoadError) → None ≡ result_ok r → LoadsExpr bs at xs ys r → ⊥
     not_refused r none l = let x = first_loaded r l in let some : None ≡ Some x.0 = none ∙ ap result_ok x.1 in cc
 
-    module _ (k : Loaded) (l : LoadsExpr qs at xs ys (Ok k)) where
-      -- it stands where loading says
-      first_stands : Stands (λ f. fits_depth f 32) expr_at (drop from bs) at xs ys k.used k.root parted.first
-      first_stands =
-          let x = first_loaded (Ok k) l in
-          let same : x.0 ≡ k = cc x.1 in
-          subst (λ b. Stands (λ f. fits_depth f 32) expr_at b at xs ys k.used k.root parted.first) tail
-          (subst (λ y. Stands (λ f. fits_depth f 32) expr_at qs at xs ys y.used y.root parted.first) same x.3)
+    -- with the others loaded after it, all are
+    all_loaded :
+        (k : Loaded) (d : End) (zs : List ℕ) (r : Option End) → LoadsExpr bs at xs ys (Ok k) → d.rest.now ≡ drop k.used bs → d.next ≡ k.root + 4
+        → PlacesExprs d.rest.now (n - 1) (set ys table k.root) zs (table + 1) d.next r
+        → Places (List Expr) (λ m. exprs_at m table n) es (4 * exprs_parts es) q table n at xs zs r
+    all_loaded k d zs r l rest next more =
+        go r (more parted.others q (omega (arith, stands.ends)) (record {
+          reads = ap (read_exprs (n - 1)) (sym left) ∙ parted.reads_others;
+          fit = fit.1;
+          enough = omega (arith, stands.ends, count, there.enough, length-set ys table k.root);
+          small = omega (arith, there.small, length-set ys table k.root);
+        }))
+      where
+        first : (m : Loaded) × (◌≡◌ {A = Result Loaded LoadError} (Ok k) (Ok m)) × (parted.rest ≡ drop m.used bs) × Stands (λ f. fits_depth f 32) expr_at bs at xs ys m.used m.root parted.first
+        first = first_loaded (Ok k) l
 
-      -- the bytes after it
-      left_over : parted.rest ≡ drop (from + k.used) bs
-      left_over =
-          let e = same_got (parted.first ∷ []) (parted.first ∷ []) parted.rest (drop k.used (drop from bs)) (sym parted.reads_first ∙ first_stands.read) in
-          e.1 ∙ drop-drop k.used from bs
+        stands : Stands (λ f. fits_depth f 32) expr_at bs at xs ys k.used k.root parted.first
+        stands = let same : first.0 ≡ k = cc first.1 in subst (λ m. Stands (λ f. fits_depth f 32) expr_at bs at xs ys m.used m.root parted.first) same first.3
 
-      -- with the others loaded after it, all are
-      pub exprs_next :
-          (table : ℕ) (zs : List ℕ) (r : Option End) → table + n ≤ at → at ≤ length xs
-          → PlacesExprs bs (from + k.used) (n - 1) (set ys table k.root) zs (table + 1) (k.root + 4) r
-          → Places (List Expr) (λ m. exprs_at m table n) es (4 * exprs_parts es) bs q table n at xs zs r
-      exprs_next table zs r before free more = go r (more parted.others q (record {
-        reads = ap (read_exprs (n - 1)) (sym left_over) ∙ parted.reads_others;
-        fit = fit.1;
-        enough = omega (arith, first_stands.ends, count, there.enough, length-set ys table k.root);
-      }))
-        where
-          go : (r : Option End)
-              → Places (List Expr) (λ m. exprs_at m (table + 1) (n - 1)) parted.others (4 * exprs_parts parted.others) bs q (table + 1) (n - 1) (k.root + 4) (set ys table k.root) zs r
-              → Places (List Expr) (λ m. exprs_at m table n) es (4 * exprs_parts es) bs q table n at xs zs r
-          go None h = h
-          go (Some e) h =
-              placed_both Expr (List Expr) (List Expr) (λ m. expr_at m (get_or m table 0)) (λ m. exprs_at m (table + 1) (n - 1)) (λ m. exprs_at m table n)
-              parted.first parted.others es (4 * expr_parts parted.first) (4 * exprs_parts parted.others) (4 * exprs_parts es)
-              bs parted.rest q table 1 (n - 1) n at xs (set ys table k.root) zs (record { from = from + k.used; next = k.root + 4 }) e
-              (λ m a b. exprs_more m table n some ∙ (λ i. a i ∷ b i) ∙ sym parted.all) (omega (arith, count)) (omega arith) before
-              (one_placed bs from at table k.used k.root xs ys parted.first parted.rest (omega arith) (omega arith) left_over l.before first_stands) h
+        left : parted.rest ≡ d.rest.now
+        left = let same : first.0 ≡ k = cc first.1 in first.2 ∙ ap (λ m. drop m.used bs) same ∙ sym rest
 
--- an end that is inside is so from an earlier place on
-pub inside_earlier :
-    (bytes room all at later : ℕ) (r : Option End) → all ≡ room → at ≤ later → EndsInside bytes all later r → EndsInside bytes room at r
-inside_earlier bytes room all at later None e h i = tt
-inside_earlier bytes room all at later (Some _) e h i = record { read = i.read; later = omega (arith, i.later); free = omega (arith, i.free) }
+        go : (r : Option End)
+            → Places (List Expr) (λ m. exprs_at m (table + 1) (n - 1)) parted.others (4 * exprs_parts parted.others) q (table + 1) (n - 1) d.next (set ys table k.root) zs r
+            → Places (List Expr) (λ m. exprs_at m table n) es (4 * exprs_parts es) q table n at xs zs r
+        go None h = h
+        go (Some e) h =
+            placed_both Expr (List Expr) (List Expr) (λ m. expr_at m (get_or m table 0)) (λ m. exprs_at m (table + 1) (n - 1)) (λ m. exprs_at m table n)
+            parted.first parted.others es (4 * expr_parts parted.first) (4 * exprs_parts parted.others) (4 * exprs_parts es)
+            parted.rest q table 1 (n - 1) n at xs (set ys table k.root) zs d e
+            (λ m a b. exprs_more m table n some ∙ (λ i. a i ∷ b i) ∙ sym parted.all) (omega (arith, count)) (omega arith) before
+            (one_placed bs at table k.used k.root xs ys parted.first parted.rest d (omega arith) (omega (arith, there.enough)) left next l.before stands) h
+
+-- what `ok` finds is what was loaded
+pub as_ok : {bs xs ys : List ℕ} {at : ℕ} (r : Result Loaded LoadError) (l : Loaded) → Some l ≡ result_ok r → LoadsExpr bs at xs ys r → LoadsExpr bs at xs ys (Ok l)
+as_ok {bs} {xs} {ys} {at} (Ok k) l is h = let same : k ≡ l = cc in subst (λ m. LoadsExpr bs at xs ys (Ok m)) same h
+as_ok (Err e) l is h = absurd cc
+
+-- one expression is loaded, and the others after it
+pub exprs_next :
+    (bs : List ℕ) (n table at : ℕ) (xs ys zs : List ℕ) (k : Loaded) (d : End) (r : Option End) → 0 < n → length ys ≡ length xs → LoadsExpr bs at xs ys (Ok k)
+    → d.rest.now ≡ drop k.used bs → d.next ≡ k.root + 4 → PlacesExprs d.rest.now (n - 1) (set ys table k.root) zs (table + 1) d.next r
+    → PlacesExprs bs n xs zs table at r
+exprs_next bs n table at xs ys zs k d r some size l rest next more es q before there =
+    all_loaded bs n table at xs ys some size es q before there k d zs r l rest next more
+
+-- the same, said of equal numbers and words
+pub exprs_counted :
+    (bs zs : List ℕ) (at : ℕ) (r : Option End) {m n i j : ℕ} {xs ys : List ℕ} → m ≡ n → xs ≡ ys → i ≡ j → PlacesExprs bs m xs zs i at r
+    → PlacesExprs bs n ys zs j at r
+exprs_counted bs zs at r {n = n} {i = i} {j = j} {xs = xs} e d f h =
+    subst (λ t. PlacesExprs bs n t zs j at r) d (subst (λ t. PlacesExprs bs n xs zs t at r) f (subst (λ c. PlacesExprs bs c xs zs i at r) e h))

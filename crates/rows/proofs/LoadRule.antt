@@ -1,5 +1,5 @@
 -- Loading a rule: its guard, its effects, and its own words.
-use Rattle.std.proofs.Common.{◌≡◌, ℕ, zero, suc, ◌+◌, ◌-◌, ◌*◌, ◌<◌, ◌≤◌, true, ◌&&◌, leb, List, [], ◌∷◌, length, get_or, drop, Some, None, sym, refl, ap, ◌∙◌, arith}
+use Rattle.std.proofs.Common.{◌≡◌, ℕ, zero, suc, ◌+◌, ◌*◌, ◌<◌, ◌≤◌, true, ◌&&◌, leb, List, [], ◌∷◌, length, get_or, drop, Some, None, sym, refl, ap, ◌∙◌, arith}
 use Rattle.std.proofs.lemmas.Bool.{and_parts, and_from}
 use Rattle.rules.specs.Rules.{Expr, Rule}
 use Rattle.rules.specs.Bounds.{fits_depth, expr_parts, good_effects, good_rules}
@@ -48,31 +48,31 @@ good_parts u h =
     let q = and_parts (fits_depth u.guard 32) _ p.1 in
     (q.0, (and_parts (good_effects u.effects) _ q.1).0)
 
--- the parts of a rule that can be read at i
-pub record RuleParts (bs : List ℕ) (i : ℕ) (u : Rule) (q : List ℕ) : Type 0 where
+-- the parts of a rule that can be read
+pub record RuleParts (bs : List ℕ) (u : Rule) (q : List ℕ) : Type 0 where
   pub guards : List Expr
   pub past : List ℕ
   pub count : ℕ
   pub front : List ℕ
   pub others : List Expr
-  pub reads_guard : read_exprs 1 (drop (i + 4) bs) ≡ got guards past
+  pub reads_guard : read_exprs 1 (drop 4 bs) ≡ got guards past
   pub reads_count : read_number 1 past ≡ got count front
   pub reads_others : read_exprs (2 * count) front ≡ got others q
-  pub is : u ≡ record { first_bound = word_at bs i; second_bound = word_at bs (i + 2); guard = part guards 0; effects = effects_of others }
+  pub is : u ≡ record { first_bound = word_at bs 0; second_bound = word_at bs 2; guard = part guards 0; effects = effects_of others }
   pub guard_fits : within_levels 33 guards ≡ true
   pub others_fit : within_levels 33 others ≡ true
   pub words : rule_words u ≡ 4 * exprs_parts guards + 2 * count + 4 * exprs_parts others
 
 -- a good rule that can be read has these parts
-pub rule_parts : (bs : List ℕ) (i : ℕ) (u : Rule) (q : List ℕ) → i + 4 ≤ length bs → read_rule (drop i bs) ≡ got u q → good_rules (u ∷ []) ≡ true → RuleParts bs i u q
-rule_parts bs i u q long h good =
-    with_got (read_exprs 1 (drop (i + 4) bs)) _ u q _ (sym (bounds_read bs i long) ∙ h) (λ es r₃ e₃ h₃.
+pub rule_parts : (bs : List ℕ) (u : Rule) (q : List ℕ) → 4 ≤ length bs → read_rule bs ≡ got u q → good_rules (u ∷ []) ≡ true → RuleParts bs u q
+rule_parts bs u q long h good =
+    with_got (read_exprs 1 (drop 4 bs)) _ u q _ (sym (bounds_read bs 0 long) ∙ h) (λ es r₃ e₃ h₃.
     with_got (read_number 1 r₃) _ u q _ h₃ (λ n r₄ e₄ h₄.
     with_got (read_exprs (2 * n) r₄) _ u q _ h₄ (λ fs r₅ e₅ h₅.
-    let v : Rule = record { first_bound = word_at bs i; second_bound = word_at bs (i + 2); guard = part es 0; effects = effects_of fs } in
+    let v : Rule = record { first_bound = word_at bs 0; second_bound = word_at bs 2; guard = part es 0; effects = effects_of fs } in
     let e = same_got v u r₅ q h₅ in
     let fits = good_parts v (ap (λ w. good_rules (w ∷ [])) e.0 ∙ good) in
-    let one = one_expr es (sized 1 (drop (i + 4) bs) es r₃ e₃).0 fits.0 in
+    let one = one_expr es (sized 1 (drop 4 bs) es r₃ e₃).0 fits.0 in
     let twos = effects_from n fs (sized (2 * n) r₄ fs r₅ e₅).0 in
     record {
       guards = es;
@@ -90,76 +90,75 @@ rule_parts bs i u q long h good =
     })))
 
 -- too few bytes for a rule's bounds
-pub no_bytes : (bs : List ℕ) (i at room : ℕ) (u : Rule) (q : List ℕ) → length bs - i < 4 → RuleThere (drop i bs) at room u q → ⊥
-no_bytes bs i at room u q short there = not_got u q (sym (no_bounds bs i short) ∙ there.reads)
+pub no_bytes : (bs : List ℕ) (at room : ℕ) (u : Rule) (q : List ℕ) → length bs < 4 → RuleThere bs at room u q → ⊥
+no_bytes bs at room u q short there = not_got u q (sym (no_bounds bs 0 (omega arith)) ∙ there.reads)
 
 -- a good rule that can be read, and has room
 module _
-    (bs : List ℕ) (i at row : ℕ) (xs : List ℕ) (long : i + 4 ≤ length bs) (u : Rule) (q : List ℕ)
-    (there : RuleThere (drop i bs) at (length xs) u q)
+    (bs : List ℕ) (at row : ℕ) (xs qs : List ℕ) (long : 4 ≤ length bs) (tail : qs ≡ drop 4 bs) (u : Rule) (q : List ℕ) (before : row + 5 ≤ at)
+    (there : RuleThere bs at (length xs) u q)
   where
     -- its parts
-    parts : RuleParts bs i u q
-    parts = rule_parts bs i u q long there.reads there.fit
+    parts : RuleParts bs u q
+    parts = rule_parts bs u q long there.reads there.fit
 
     -- a rule's guard is there
-    guard_there : ExprsThere (drop (i + 4) bs) 1 at (length xs) parts.guards parts.past
-    guard_there = record { reads = parts.reads_guard; fit = parts.guard_fits; enough = omega (arith, parts.words, there.enough) }
+    guard_there : ExprsThere qs 1 at (length xs) parts.guards parts.past
+    guard_there = record { reads = ap (read_exprs 1) tail ∙ parts.reads_guard; fit = parts.guard_fits; enough = omega (arith, parts.words, there.enough); small = there.small }
 
     -- so its guard is not refused
-    pub no_guard : (ys : List ℕ) → PlacesExprs bs (i + 4) 1 xs ys (row + 2) at None → ⊥
-    no_guard ys refused = refused parts.guards parts.past guard_there
+    pub no_guard : (ys : List ℕ) → PlacesExprs qs 1 xs ys (row + 2) at None → ⊥
+    no_guard ys refused = refused parts.guards parts.past (omega arith) guard_there
 
     -- with the guard loaded
-    module _ (ys : List ℕ) (g : End) (size : length ys ≡ length xs) (loaded : PlacesExprs bs (i + 4) 1 xs ys (row + 2) at (Some g)) where
+    module _ (ys : List ℕ) (g : End) (size : length ys ≡ length xs) (loaded : PlacesExprs qs 1 xs ys (row + 2) at (Some g)) where
       -- it is placed
-      guard : Placed (List Expr) (λ m. exprs_at m (row + 2) 1) parts.guards (4 * exprs_parts parts.guards) bs parts.past (row + 2) 1 at xs ys g
-      guard = loaded parts.guards parts.past guard_there
+      guard : Placed (List Expr) (λ m. exprs_at m (row + 2) 1) parts.guards (4 * exprs_parts parts.guards) parts.past (row + 2) 1 at xs ys g
+      guard = loaded parts.guards parts.past (omega arith) guard_there
 
       -- the count of effects follows
-      at_count : read_number 1 (drop g.from bs) ≡ got parts.count parts.front
+      at_count : read_number 1 g.rest.now ≡ got parts.count parts.front
       at_count = ap (read_number 1) (sym guard.left) ∙ parts.reads_count
 
       -- so there is a byte for it
-      pub no_count : length bs ≤ g.from → ⊥
-      no_count h = not_got parts.count parts.front (sym (number_short 1 bs g.from (omega arith)) ∙ at_count)
+      pub no_count : length g.rest.now ≡ 0 → ⊥
+      no_count h = not_got parts.count parts.front (sym (number_short 1 g.rest.now 0 (omega arith)) ∙ at_count)
 
-      module _ (some : g.from < length bs) where
+      module _ (n b : ℕ) (rest : List ℕ) (num : n ≡ b) (first : g.rest.now ≡ b ∷ rest) where
         -- the count, and the bytes after it
-        counted : (get_or bs g.from 0 ≡ parts.count) × (drop (g.from + 1) bs ≡ parts.front)
+        counted : (n ≡ parts.count) × (rest ≡ parts.front)
         counted =
-            let e = same_got _ parts.count (drop (g.from + 1) bs) parts.front (sym (number_at 1 bs g.from (omega arith)) ∙ at_count) in
-            (sym (byte_is bs g.from some) ∙ e.0, e.1)
+            let e = same_got _ parts.count rest parts.front (sym (number_at 1 (b ∷ rest) 0 (omega arith)) ∙ ap (read_number 1) (sym first) ∙ at_count) in
+            (num ∙ sym (byte_is (b ∷ rest) 0 (omega arith)) ∙ e.0, e.1)
 
-        -- there is room for the places of the effects' expressions
-        pub no_room : length ys - g.next < 2 * get_or bs g.from 0 → ⊥
-        no_room h = omega (arith, counted.0, guard.ends, parts.words, there.enough)
+        -- the places of the effects' expressions are numbers of four bytes
+        pub no_room : 4294967295 < g.next + 2 * n → ⊥
+        no_room h = omega (arith, counted.0, guard.ends, parts.words, there.enough, there.small)
 
         -- the expressions of a rule's effects are there
-        others_there :
-            ExprsThere (drop (g.from + 1) bs) (2 * get_or bs g.from 0) (g.next + 2 * get_or bs g.from 0) (length ys) parts.others q
-        others_there = record {
+        others_there : (m : ℕ) → m ≡ g.next + 2 * n → ExprsThere rest (2 * n) m (length ys) parts.others q
+        others_there m sum = record {
           reads = (λ j. read_exprs (2 * counted.0 j) (counted.1 j)) ∙ parts.reads_others;
           fit = parts.others_fit;
           enough = omega (arith, counted.0, guard.ends, parts.words, there.enough);
+          small = omega (arith, there.small);
         }
 
         -- so they are not refused
-        pub no_others : (zs : List ℕ) → PlacesExprs bs (g.from + 1) (2 * get_or bs g.from 0) ys zs g.next (g.next + 2 * get_or bs g.from 0) None → ⊥
-        no_others zs refused = refused parts.others q others_there
+        pub no_others : (zs : List ℕ) (m : ℕ) → m ≡ g.next + 2 * n → PlacesExprs rest (2 * n) ys zs g.next m None → ⊥
+        no_others zs m sum refused = refused parts.others q (omega arith) (others_there m sum)
 
         -- with its own words written, the rule is placed
         pub rule_placed :
-            (zs ws : List ℕ) (e : End) (a b : ℕ) → row + 5 ≤ at → a ≡ word_at bs i → b ≡ word_at bs (i + 2)
-            → PlacesExprs bs (g.from + 1) (2 * get_or bs g.from 0) ys zs g.next (g.next + 2 * get_or bs g.from 0) (Some e)
-            → RuleWritten row a b (get_or bs g.from 0) g.next zs ws
-            → Placed Rule (λ m. rule_at_word m row) u (rule_words u) bs q row 5 at xs ws e
+            (zs ws : List ℕ) (e : End) (a b m : ℕ) → m ≡ g.next + 2 * n → length zs ≡ length ys → a ≡ word_at bs 0 → b ≡ word_at bs 2
+            → PlacesExprs rest (2 * n) ys zs g.next m (Some e) → (row + 5 ≤ length zs → RuleWritten row a b n g.next zs ws)
+            → Placed Rule (λ m. rule_at_word m row) u (rule_words u) q row 5 at xs ws e
         unfolding rule_at_word exprs_at
-        rule_placed zs ws e a b before is-a is_b more w =
-            let n : ℕ = get_or bs g.from 0 in
-            let others = more parts.others q others_there in
+        rule_placed zs ws e a b m sum same_size is-a is_b more written =
+            let w = written (omega (arith, there.enough)) in
+            let others = more parts.others q (omega arith) (others_there m sum) in
             let far : at ≤ g.next = omega (arith, guard.ends) in
-            let end : e.next ≡ g.next + 2 * n + 4 * exprs_parts parts.others = others.ends in
+            let end : e.next ≡ g.next + 2 * n + 4 * exprs_parts parts.others = omega (arith, others.ends) in
             record {
               left = others.left;
               ends = omega (arith, counted.0, guard.ends, parts.words);
@@ -168,8 +167,8 @@ module _
               stays = λ vs table here.
                   let word : (k : ℕ) → k < 5 → get_or vs (row + k) 0 ≡ get_or ws (row + k) 0 = λ k h. table (row + k) (omega arith) (omega arith) in
                   let zero_more : row + 0 ≡ row = omega arith in
-                  let first : get_or vs row 0 ≡ word_at bs i = ap (λ k. get_or vs k 0) (sym zero_more) ∙ word 0 (omega arith) ∙ ap (λ k. get_or ws k 0) zero_more ∙ w.first_is ∙ is-a in
-                  let second : get_or vs (row + 1) 0 ≡ word_at bs (i + 2) = word 1 (omega arith) ∙ w.second_is ∙ is_b in
+                  let first : get_or vs row 0 ≡ word_at bs 0 = ap (λ k. get_or vs k 0) (sym zero_more) ∙ word 0 (omega arith) ∙ ap (λ k. get_or ws k 0) zero_more ∙ w.first_is ∙ is-a in
+                  let second : get_or vs (row + 1) 0 ≡ word_at bs 2 = word 1 (omega arith) ∙ w.second_is ∙ is_b in
                   let count : get_or vs (row + 3) 0 ≡ n = word 3 (omega arith) ∙ w.count_is in
                   let place : get_or vs (row + 4) 0 ≡ g.next = word 4 (omega arith) ∙ w.place_is in
                   let guards : exprs_at vs (row + 2) 1 ≡ parts.guards =

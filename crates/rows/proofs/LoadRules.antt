@@ -1,5 +1,5 @@
 -- Loading rules, one after the other.
-use Rattle.std.proofs.Common.{◌≡◌, ℕ, suc, ◌+◌, ◌-◌, ◌*◌, ◌<◌, ◌≤◌, true, ◌&&◌, leb, List, [], ◌∷◌, length, drop, Some, None, Option, sym, refl, ap, ◌∙◌, arith}
+use Rattle.std.proofs.Common.{◌≡◌, ℕ, suc, ◌+◌, ◌-◌, ◌*◌, ◌<◌, ◌≤◌, true, ◌&&◌, leb, List, [], ◌∷◌, length, Some, None, Option, sym, refl, ap, ◌∙◌, subst, arith}
 use Rattle.std.proofs.lemmas.Bool.{and_parts, and_from}
 use Rattle.rules.specs.Rules.{Rule}
 use Rattle.rules.specs.Bounds.{fits_depth, good_effects, good_rules}
@@ -12,12 +12,12 @@ use Rattle.rows.specs.Load.{rule_words, rules_words, Placed, Places, RuleThere, 
 use Rattle.rows.proofs.LoadPlaced.{placed_both, nothing_placed}
 
 -- no rule is to come
-pub no_rules : (bs : List ℕ) (from n row at : ℕ) (xs : List ℕ) → n ≡ 0 → PlacesRules bs from n xs xs row at (Some (record { from = from; next = at }))
+pub no_rules : (n row : ℕ) (xs : List ℕ) (e : End) → n ≡ 0 → PlacesRules e.rest.now n xs xs row e.next (Some e)
 unfolding rules_at read_rules rules_words
-no_rules bs from n row at xs z us q there =
-    let e = same_got [] us (drop from bs) q (sym (ap (λ k. read_rules k (drop from bs)) z) ∙ there.reads) in
-    nothing_placed (List Rule) (λ m. rules_at m row n) us (rules_words us) bs q from row (5 * n) at xs (λ m. ap (rules_at m row) z ∙ e.0)
-    (sym (ap rules_words e.0)) (sym e.1)
+no_rules n row xs e z us q before there =
+    let f = same_got [] us e.rest.now q (sym (ap (λ k. read_rules k e.rest.now) z) ∙ there.reads) in
+    nothing_placed (List Rule) (λ m. rules_at m row n) us (rules_words us) q row (5 * n) xs e (λ m. ap (rules_at m row) z ∙ f.0)
+    (sym (ap rules_words f.0)) (sym f.1)
 
 -- the first rule, and then the others
 record Split (bs : List ℕ) (n : ℕ) (us : List Rule) (q : List ℕ) : Type 0 where
@@ -57,47 +57,61 @@ unfolding rules_at
 rules_more m i n some = let e : n ≡ suc (n - 1) = omega arith in ap (rules_at m i) e
 
 -- good rules that can be read, and have room
-module _ (bs : List ℕ) (from n row at : ℕ) (xs : List ℕ) (some : 0 < n) (us : List Rule) (q : List ℕ) (there : RulesThere (drop from bs) n at (length xs) us q) where
-  -- the first rule, and the others
-  parted : Split (drop from bs) (n - 1) us q
-  parted = split (drop from bs) n us q some there.reads
+module _
+    (bs : List ℕ) (n row at : ℕ) (xs : List ℕ) (some : 0 < n) (us : List Rule) (q : List ℕ) (before : row + 5 * n ≤ at)
+    (there : RulesThere bs n at (length xs) us q)
+  where
+    -- the first rule, and the others
+    parted : Split bs (n - 1) us q
+    parted = split bs n us q some there.reads
 
-  -- both are good
-  good : (good_rules (parted.first ∷ []) ≡ true) × (good_rules parted.others ≡ true)
-  good = good_both parted.first parted.others (ap good_rules (sym parted.all) ∙ there.fit)
+    -- both are good
+    good : (good_rules (parted.first ∷ []) ≡ true) × (good_rules parted.others ≡ true)
+    good = good_both parted.first parted.others (ap good_rules (sym parted.all) ∙ there.fit)
 
-  -- their words, together
-  words : rules_words us ≡ rule_words parted.first + rules_words parted.others
-  words = ap rules_words parted.all ∙ words_both parted.first parted.others
+    -- their words, together
+    words : rules_words us ≡ rule_words parted.first + rules_words parted.others
+    words = ap rules_words parted.all ∙ words_both parted.first parted.others
 
-  -- the first rule is there
-  first_there : RuleThere (drop from bs) at (length xs) parted.first parted.rest
-  first_there = record { reads = parted.reads_first; fit = good.0; enough = omega (arith, words, there.enough) }
+    -- the first rule is there
+    first_there : RuleThere bs at (length xs) parted.first parted.rest
+    first_there = record { reads = parted.reads_first; fit = good.0; enough = omega (arith, words, there.enough); small = there.small }
 
-  -- so it is not refused
-  pub not_refused : (ys : List ℕ) → PlacesRule bs from xs ys row at None → ⊥
-  not_refused ys refused = refused parted.first parted.rest first_there
+    -- so it is not refused
+    pub not_refused : (ys : List ℕ) → PlacesRule bs xs ys row at None → ⊥
+    not_refused ys refused = refused parted.first parted.rest (omega arith) first_there
 
-  -- with the others loaded after it, all are
-  pub rules_next :
-      (ys zs : List ℕ) (d : End) (r : Option End) → length ys ≡ length xs → row + 5 * n ≤ at → PlacesRule bs from xs ys row at (Some d)
-      → PlacesRules bs d.from (n - 1) ys zs (row + 5) d.next r
-      → Places (List Rule) (λ m. rules_at m row n) us (rules_words us) bs q row (5 * n) at xs zs r
-  rules_next ys zs d r size before one more =
-      go r (more parted.others q (record {
-        reads = ap (read_rules (n - 1)) (sym placed.left) ∙ parted.reads_others;
-        fit = good.1;
-        enough = omega (arith, placed.ends, words, there.enough);
-      }))
-    where
-      placed : Placed Rule (λ m. rule_at_word m row) parted.first (rule_words parted.first) bs parted.rest row 5 at xs ys d
-      placed = one parted.first parted.rest first_there
+    -- with the others loaded after it, all are
+    all_loaded :
+        (ys zs : List ℕ) (d : End) (r : Option End) → length ys ≡ length xs → PlacesRule bs xs ys row at (Some d)
+        → PlacesRules d.rest.now (n - 1) ys zs (row + 5) d.next r → Places (List Rule) (λ m. rules_at m row n) us (rules_words us) q row (5 * n) at xs zs r
+    all_loaded ys zs d r size one more =
+        go r (more parted.others q (omega (arith, placed.ends)) (record {
+          reads = ap (read_rules (n - 1)) (sym placed.left) ∙ parted.reads_others;
+          fit = good.1;
+          enough = omega (arith, placed.ends, words, there.enough);
+          small = omega (arith, there.small);
+        }))
+      where
+        placed : Placed Rule (λ m. rule_at_word m row) parted.first (rule_words parted.first) parted.rest row 5 at xs ys d
+        placed = one parted.first parted.rest (omega arith) first_there
 
-      go : (r : Option End)
-          → Places (List Rule) (λ m. rules_at m (row + 5) (n - 1)) parted.others (rules_words parted.others) bs q (row + 5) (5 * (n - 1)) d.next ys zs r
-          → Places (List Rule) (λ m. rules_at m row n) us (rules_words us) bs q row (5 * n) at xs zs r
-      go None h = h
-      go (Some e) h =
-          placed_both Rule (List Rule) (List Rule) (λ m. rule_at_word m row) (λ m. rules_at m (row + 5) (n - 1)) (λ m. rules_at m row n) parted.first
-          parted.others us (rule_words parted.first) (rules_words parted.others) (rules_words us) bs parted.rest q row 5 (5 * (n - 1)) (5 * n)
-          at xs ys zs d e (λ m a b. rules_more m row n some ∙ (λ i. a i ∷ b i) ∙ sym parted.all) words (omega arith) before placed h
+        go : (r : Option End)
+            → Places (List Rule) (λ m. rules_at m (row + 5) (n - 1)) parted.others (rules_words parted.others) q (row + 5) (5 * (n - 1)) d.next ys zs r
+            → Places (List Rule) (λ m. rules_at m row n) us (rules_words us) q row (5 * n) at xs zs r
+        go None h = h
+        go (Some e) h =
+            placed_both Rule (List Rule) (List Rule) (λ m. rule_at_word m row) (λ m. rules_at m (row + 5) (n - 1)) (λ m. rules_at m row n) parted.first
+            parted.others us (rule_words parted.first) (rules_words parted.others) (rules_words us) parted.rest q row 5 (5 * (n - 1)) (5 * n)
+            at xs ys zs d e (λ m a b. rules_more m row n some ∙ (λ i. a i ∷ b i) ∙ sym parted.all) words (omega arith) before placed h
+
+-- one rule is loaded, and the others after it
+pub rules_next :
+    (bs : List ℕ) (n row at : ℕ) (xs ys zs : List ℕ) (d : End) (r : Option End) → 0 < n → length ys ≡ length xs → PlacesRule bs xs ys row at (Some d)
+    → PlacesRules d.rest.now (n - 1) ys zs (row + 5) d.next r → PlacesRules bs n xs zs row at r
+rules_next bs n row at xs ys zs d r some size one more us q before there = all_loaded bs n row at xs some us q before there ys zs d r size one more
+
+-- the same, said of equal numbers
+pub rules_counted :
+    (bs xs zs : List ℕ) (at : ℕ) (r : Option End) {m n i j : ℕ} → m ≡ n → i ≡ j → PlacesRules bs m xs zs i at r → PlacesRules bs n xs zs j at r
+rules_counted bs xs zs at r {n = n} {i = i} e f h = subst (λ t. PlacesRules bs n xs zs t at r) f (subst (λ c. PlacesRules bs c xs zs i at r) e h)

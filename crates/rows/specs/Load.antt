@@ -1,5 +1,5 @@
 -- What loading a game leaves. Assumes nothing: these are definitions.
-use Rattle.std.specs.Prelude.{◌≡◌, ℕ, zero, suc, ◌+◌, ◌*◌, ◌<◌, ◌≤◌, true, List, [], ◌∷◌, length, drop, IfSome, IsSome, Some, Ok, Err, Option, Result, MatchOption, slice_index, slice_index_or}
+use Rattle.std.specs.Prelude.{◌≡◌, ℕ, zero, suc, ◌+◌, ◌*◌, ◌<◌, ◌≤◌, true, List, [], ◌∷◌, length, IsSome, Some, Ok, Err, Option, Result, MatchOption, slice_index, slice_index_or}
 use Rattle.rules.specs.declared.Refusal.{Refusal}
 use Rattle.rules.specs.Rules.{Expr, Effect, Rule, Game}
 use Rattle.rules.specs.Bounds.{expr_parts, game_parts, good_rules, good_game}
@@ -56,9 +56,9 @@ unfoldable pub rules_words : List Rule → ℕ
 rules_words [] = 0
 rules_words (u ∷ us) = rule_words u + rules_words us
 
--- a was read from bytes, and q was left; it is what memory means by `wide` words from `table` on and `words` words from `at` on
-pub record Placed (A : Type 0) (means : List ℕ → A) (a : A) (words : ℕ) (bs q : List ℕ) (table wide at : ℕ) (xs ys : List ℕ) (e : End) : Type 0 where
-  pub left : q ≡ drop e.from bs
+-- a was read, and the bytes q are left; it is what memory means by `wide` words from `table` on and `words` words from `at` on
+pub record Placed (A : Type 0) (means : List ℕ → A) (a : A) (words : ℕ) (q : List ℕ) (table wide at : ℕ) (xs ys : List ℕ) (e : End) : Type 0 where
+  pub left : q ≡ e.rest.now
   pub ends : e.next ≡ at + words
   -- nothing else is written before its end
   pub below : (k : ℕ) → k < table → slice_index ys k ≡ slice_index xs k
@@ -67,54 +67,47 @@ pub record Placed (A : Type 0) (means : List ℕ → A) (a : A) (words : ℕ) (b
   pub stays : (zs : List ℕ) → SameBetween table (table + wide) zs ys → SameBetween at e.next zs ys → means zs ≡ a
 
 -- it was placed, and not refused
-abbrev pub Places : (A : Type 0) → (List ℕ → A) → A → ℕ → List ℕ → List ℕ → ℕ → ℕ → ℕ → List ℕ → List ℕ → Option End → Type 0
-Places A means a words bs q table wide at xs ys r = MatchOption r ⊥ (λ e. Placed A means a words bs q table wide at xs ys e)
+abbrev pub Places : (A : Type 0) → (List ℕ → A) → A → ℕ → List ℕ → ℕ → ℕ → ℕ → List ℕ → List ℕ → Option End → Type 0
+Places A means a words q table wide at xs ys r = MatchOption r ⊥ (λ e. Placed A means a words q table wide at xs ys e)
 
--- n expressions can be read, none is too deep, and there is room for them
+-- n expressions can be read, none is too deep, and there is room for them, whose places are numbers of four bytes
 pub record ExprsThere (bs : List ℕ) (n at room : ℕ) (es : List Expr) (q : List ℕ) : Type 0 where
   pub reads : read_exprs n bs ≡ got es q
   pub fit : within_levels 33 es ≡ true
   pub enough : at + 4 * exprs_parts es ≤ room
+  pub small : room ≤ 4294967295
 
--- a good rule can be read, and there is room for it
+-- a good rule can be read, and there is room for it, whose places are numbers of four bytes
 pub record RuleThere (bs : List ℕ) (at room : ℕ) (u : Rule) (q : List ℕ) : Type 0 where
   pub reads : read_rule bs ≡ got u q
   pub fit : good_rules (u ∷ []) ≡ true
   pub enough : at + rule_words u ≤ room
+  pub small : room ≤ 4294967295
 
--- n good rules can be read, and there is room for them
+-- n good rules can be read, and there is room for them, whose places are numbers of four bytes
 pub record RulesThere (bs : List ℕ) (n at room : ℕ) (us : List Rule) (q : List ℕ) : Type 0 where
   pub reads : read_rules n bs ≡ got us q
   pub fit : good_rules us ≡ true
   pub enough : at + rules_words us ≤ room
+  pub small : room ≤ 4294967295
 
--- where reading goes on, and where memory is free, are both within bounds
-pub record Inside (bytes room at : ℕ) (e : End) : Type 0 where
-  pub read : e.from ≤ bytes
-  pub later : at ≤ e.next
-  pub free : e.next ≤ room
+-- if n expressions are there, and the words for their places before them, they are placed
+abbrev pub PlacesExprs : List ℕ → ℕ → List ℕ → List ℕ → ℕ → ℕ → Option End → Type 0
+PlacesExprs bs n xs ys table at r =
+    (es : List Expr) (q : List ℕ) → table + n ≤ at → ExprsThere bs n at (length xs) es q
+    → Places (List Expr) (λ m. exprs_at m table n) es (4 * exprs_parts es) q table n at xs ys r
 
--- if there is an end, it is inside
-abbrev pub EndsInside : ℕ → ℕ → ℕ → Option End → Type 0
-EndsInside bytes room at r = IfSome r (Inside bytes room at)
+-- if a rule is there, and its words before it, it is placed
+abbrev pub PlacesRule : List ℕ → List ℕ → List ℕ → ℕ → ℕ → Option End → Type 0
+PlacesRule bs xs ys row at r =
+    (u : Rule) (q : List ℕ) → row + 5 ≤ at → RuleThere bs at (length xs) u q
+    → Places Rule (λ m. rule_at_word m row) u (rule_words u) q row 5 at xs ys r
 
--- if n expressions are there from a byte on, they are placed
-abbrev pub PlacesExprs : List ℕ → ℕ → ℕ → List ℕ → List ℕ → ℕ → ℕ → Option End → Type 0
-PlacesExprs bs from n xs ys table at r =
-    (es : List Expr) (q : List ℕ) → ExprsThere (drop from bs) n at (length xs) es q
-    → Places (List Expr) (λ m. exprs_at m table n) es (4 * exprs_parts es) bs q table n at xs ys r
-
--- if a rule is there, it is placed
-abbrev pub PlacesRule : List ℕ → ℕ → List ℕ → List ℕ → ℕ → ℕ → Option End → Type 0
-PlacesRule bs from xs ys row at r =
-    (u : Rule) (q : List ℕ) → RuleThere (drop from bs) at (length xs) u q
-    → Places Rule (λ m. rule_at_word m row) u (rule_words u) bs q row 5 at xs ys r
-
--- if n rules are there, they are placed
-abbrev pub PlacesRules : List ℕ → ℕ → ℕ → List ℕ → List ℕ → ℕ → ℕ → Option End → Type 0
-PlacesRules bs from n xs ys row at r =
-    (us : List Rule) (q : List ℕ) → RulesThere (drop from bs) n at (length xs) us q
-    → Places (List Rule) (λ m. rules_at m row n) us (rules_words us) bs q row (5 * n) at xs ys r
+-- if n rules are there, and their words before them, they are placed
+abbrev pub PlacesRules : List ℕ → ℕ → List ℕ → List ℕ → ℕ → ℕ → Option End → Type 0
+PlacesRules bs n xs ys row at r =
+    (us : List Rule) (q : List ℕ) → row + 5 * n ≤ at → RulesThere bs n at (length xs) us q
+    → Places (List Rule) (λ m. rules_at m row n) us (rules_words us) q row (5 * n) at xs ys r
 
 -- the words of a rule at `row` were written, but for the place of its guard, and nothing else
 pub record RuleWritten (row a b n t : ℕ) (xs ys : List ℕ) : Type 0 where

@@ -1,18 +1,19 @@
 // A game is loaded from bytes that have been checked. What memory is as a game stands in specs/Layout.antt.
-ghost use Rattle.std.specs.Prelude.{◌≡◌, ℕ, ◌+◌, ◌*◌, ◌<◌, ◌≤◌, length, slice_index};
+ghost use Rattle.std.specs.Prelude.{◌≡◌, ℕ, ◌+◌, ◌*◌, ◌^◌, ◌<◌, ◌≤◌, length, slice_index};
 ghost use Rattle.wire.specs.GamesWalk.{word_at};
 ghost use Rattle.rows.specs.Encoding.{EveryGameHasMemory};
 ghost use Rattle.rows.specs.Layout.{words_needed};
-ghost use Rattle.rows.specs.Load.{WordsAreEnough, EndsInside, PlacesExprs, RuleWritten, PlacesRule, PlacesRules, HeaderWritten, Fills, LoadsGame};
+ghost use Rattle.rows.specs.Load.{WordsAreEnough, PlacesExprs, RuleWritten, PlacesRule, PlacesRules, HeaderWritten, Fills, LoadsGame};
 
+use crate::read::{HEADER, RULE_WORDS};
 use eval::{Loaded, load_expr};
 use rules::{Reason, Refusal};
-use wire::{GameSize, check_game, two_bytes};
+use wire::{GameSize, check_game, put, two_bytes};
 
-// Where reading goes on in the bytes, and where memory is free.
+// The bytes that are left to read, and where memory is free.
 #[derive(Clone, Copy)]
-struct End {
-    from: usize,
+struct End<'a> {
+    rest: &'a [u8],
     next: u32,
 }
 
@@ -25,7 +26,7 @@ pub fn words_needed(size: GameSize) -> usize
     let parts = (size.parts as usize)
         .saturating_sub(rules)
         .saturating_sub(effects);
-    5 + size.cells as usize + 5 * rules + 2 * effects + 4 * parts
+    HEADER + size.cells as usize + RULE_WORDS * rules + 2 * effects + 4 * parts
 }
 
 // A good game takes at most 16 words for each of its parts, and 384.
@@ -43,74 +44,65 @@ pub fn every_game_has_memory() -> u8
 }
 
 // Loads `count` expressions, and notes their places in the words from `table` on.
-fn load_exprs(
-    bytes: &[u8],
-    from: usize,
+fn load_exprs<'a>(
+    bytes: &'a [u8],
     count: usize,
     rules: &mut [u32],
     table: usize,
     at: u32,
-) -> Option<End>
-    requires read { from ≤ length bytes.now }
-    requires before { table + count ≤ at }
-    requires free { at ≤ length rules.old }
-    requires small { length rules.old ≤ 4294967295 }
-    ensures inside { EndsInside (length bytes.now) (length rules.old) at result }
-    ensures placed { PlacesExprs bytes.now from count rules.old rules.new table at result }
+) -> Option<End<'a>>
+    requires { table + count < 2 ^ 64 }
+    ensures { PlacesExprs bytes.now count rules.old rules.new table at result }
 {
-    if count == 0 {
-        return Some(End { from, next: at });
+    let mut end = End {
+        rest: bytes,
+        next: at,
+    };
+    for i in 0..count {
+        let Loaded { used, root } = load_expr(end.rest, rules, end.next).ok()?;
+        put(rules, table + i, root);
+        end = End {
+            rest: &end.rest[used..],
+            next: root + 4,
+        };
     }
-    let Loaded { used, root } = load_expr(&bytes[from..], rules, at).ok()?;
-    rules[table] = root;
-    load_exprs(bytes, from + used, count - 1, rules, table + 1, root + 4)
+    Some(end)
 }
 
-// Writes the words of a rule, but for the place of its guard.
+// Writes the words of a rule, but for the place of its guard, if they are there.
 fn put_rule(rules: &mut [u32], row: usize, first: u32, second: u32, count: u32, effects: u32)
-    requires { row + 5 ≤ length rules.old }
-    ensures { RuleWritten row first second count effects rules.old rules.new }
+    requires { row + 5 < 2 ^ 64 }
+    ensures { row + 5 ≤ length rules.old → RuleWritten row first second count effects rules.old rules.new }
 {
-    rules[row] = first;
-    rules[row + 1] = second;
-    rules[row + 3] = count;
-    rules[row + 4] = effects;
+    put(rules, row, first);
+    put(rules, row + 1, second);
+    put(rules, row + 3, count);
+    put(rules, row + 4, effects);
 }
 
 // Loads a rule, whose five words begin at `row`: its guard, the places of its effects' expressions, and these.
-fn load_rule(bytes: &[u8], from: usize, rules: &mut [u32], row: usize, at: u32) -> Option<End>
-    requires read { from ≤ length bytes.now }
-    requires before { row + 5 ≤ at }
-    requires free { at ≤ length rules.old }
-    requires small { length rules.old ≤ 4294967295 }
-    ensures inside { EndsInside (length bytes.now) (length rules.old) at result }
-    ensures placed { PlacesRule bytes.now from rules.old rules.new row at result }
+fn load_rule<'a>(bytes: &'a [u8], rules: &mut [u32], row: usize, at: u32) -> Option<End<'a>>
+    requires { row + 5 < 2 ^ 64 }
+    ensures { PlacesRule bytes.now rules.old rules.new row at result }
 {
-    if bytes.len() - from < 4 {
-        return None;
-    }
-    let guard = load_exprs(bytes, from + 4, 1, rules, row + 2, at)?;
-    if bytes.len() <= guard.from {
-        return None;
-    }
-    let count = bytes[guard.from] as u32;
+    let (_, rest) = bytes.split_at_checked(4)?;
+    let guard = load_exprs(rest, 1, rules, row + 2, at)?;
+    let (count, rest) = guard.rest.split_first()?;
+    let count = u32::from(*count);
     let table = guard.next as usize;
-    if rules.len() - table < 2 * count as usize {
-        return None;
-    }
+    let places = 2 * count;
     let end = load_exprs(
-        bytes,
-        guard.from + 1,
-        2 * count as usize,
+        rest,
+        places as usize,
         rules,
         table,
-        guard.next + 2 * count,
+        guard.next.checked_add(places)?,
     )?;
     put_rule(
         rules,
         row,
-        u32::from(two_bytes(bytes, from)),
-        u32::from(two_bytes(bytes, from + 2)),
+        u32::from(two_bytes(bytes, 0)),
+        u32::from(two_bytes(bytes, 2)),
         count,
         guard.next,
     );
@@ -118,36 +110,34 @@ fn load_rule(bytes: &[u8], from: usize, rules: &mut [u32], row: usize, at: u32) 
 }
 
 // Loads `count` rules, whose words begin at `row`.
-fn load_rules(
-    bytes: &[u8],
-    from: usize,
+fn load_rules<'a>(
+    bytes: &'a [u8],
     count: usize,
     rules: &mut [u32],
     row: usize,
     at: u32,
-) -> Option<End>
-    requires read { from ≤ length bytes.now }
-    requires before { row + 5 * count ≤ at }
-    requires free { at ≤ length rules.old }
-    requires small { length rules.old ≤ 4294967295 }
-    ensures inside { EndsInside (length bytes.now) (length rules.old) at result }
-    ensures placed { PlacesRules bytes.now from count rules.old rules.new row at result }
+) -> Option<End<'a>>
+    requires { row + 5 * count < 2 ^ 64 }
+    ensures { PlacesRules bytes.now count rules.old rules.new row at result }
 {
-    if count == 0 {
-        return Some(End { from, next: at });
+    let mut end = End {
+        rest: bytes,
+        next: at,
+    };
+    for i in 0..count {
+        end = load_rule(end.rest, rules, row + RULE_WORDS * i, end.next)?;
     }
-    let one = load_rule(bytes, from, rules, row, at)?;
-    load_rules(bytes, one.from, count - 1, rules, row + 5, one.next)
+    Some(end)
 }
 
-// Writes the cells at the start, of two bytes each, from the sixth word on.
+// Writes the cells at the start, of two bytes each, from the sixth word on. By their places: through iter_mut a proof knows only lengths.
 fn load_cells(bytes: &[u8], count: usize, rules: &mut [u32])
     requires read { 3 + 2 * count ≤ length bytes.now }
     requires room { 5 + count ≤ length rules.old }
     ensures { (k : ℕ) → k < count → slice_index rules.new (5 + k) ≡ word_at bytes.now (3 + 2 * k) }
 {
     for k in 0..count {
-        rules[5 + k] = u32::from(two_bytes(bytes, 3 + 2 * k));
+        rules[HEADER + k] = u32::from(two_bytes(bytes, 3 + 2 * k));
     }
 }
 
@@ -169,14 +159,11 @@ fn load_game(bytes: &[u8], size: GameSize, rules: &mut [u32]) -> Option<()>
 {
     let cells = size.cells as usize;
     let count = size.rules as usize;
-    let past = 3 + 2 * cells;
-    if bytes.len() <= past {
-        return None;
-    }
+    let (_, rest) = bytes.split_at_checked(3 + 2 * cells + 1)?;
     load_cells(bytes, cells, rules);
-    let row = 5 + cells;
-    let all = load_rules(bytes, past + 1, count, rules, row, (row + 5 * count) as u32)?;
-    load_exprs(bytes, all.from, 2, rules, 3, all.next)?;
+    let row = HEADER + cells;
+    let all = load_rules(rest, count, rules, row, (row + RULE_WORDS * count) as u32)?;
+    load_exprs(all.rest, 2, rules, 3, all.next)?;
     put_header(rules, size.players, size.cells, size.rules);
     Some(())
 }

@@ -8,7 +8,7 @@ use eval::{eval, word_at};
 use wire::put;
 
 // The five words that a game begins with: how many players, cells and rules it has, and where its terminal and its payoff are.
-#[derive(Clone, Copy)]
+#[derive(Clone, Copy, PartialEq, Eq, Debug)]
 pub struct GameRow {
     pub players: u32,
     pub cells: u32,
@@ -18,7 +18,7 @@ pub struct GameRow {
 }
 
 // The five words of a rule: its bounds, where its guard is, how many effects it has, and where these are.
-#[derive(Clone, Copy)]
+#[derive(Clone, Copy, PartialEq, Eq, Debug)]
 pub struct RuleRow {
     pub first_bound: u32,
     pub second_bound: u32,
@@ -35,9 +35,9 @@ struct EffectRow {
 }
 
 // How many words a game begins with, and how many each rule has.
-const HEADER: usize = 5;
+pub(super) const HEADER: usize = 5;
 
-const RULE_WORDS: usize = 5;
+pub(super) const RULE_WORDS: usize = 5;
 
 // The words that the game begins with.
 pub fn read_game(rules: &[u32]) -> GameRow

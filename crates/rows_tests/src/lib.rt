@@ -48,9 +48,7 @@ mod tests {
         let mut memory = [0u32; 148];
         assert!(rt; load(&PILE, &mut memory[0..148]).is_ok());
         assert!(rt; read_rule(&memory, 1).is_none());
-        let Some(row) = read_rule(&memory, 0) else {
-            return Err(Fail::new("there is a rule"));
-        };
+        let row = read_rule(&memory, 0).ok_or_else(|| Fail::new("there is a rule"))?;
         assert_eq!(rt; row.first_bound, 4);
         assert_eq!(rt; row.second_bound, 1);
         assert_eq!(rt; row.effects, 2);

@@ -2,51 +2,45 @@ use Rattle.std.proofs.Common.{◌∙◌, arith}
 use Rattle.rows.proofs.LoadRule.{no_bytes, no_guard, no_count, no_room, no_others, rule_placed}
 use Rattle.rows.proofs.loading.load_rule.Goals as goal
 
-pub returns-then-bytes-from-lt4 : goal.returns-then-bytes-from-lt4
-returns-then-bytes-from-lt4 c = record {
-  inside = tt;
-  placed = λ u q there. no_bytes c.args.bytes.now c.args.from c.args.at _ u q (omega arith) there;
-}
+pub returns-in_err-rest : goal.returns-in_err-rest
+returns-in_err-rest c =
+    rw c.from_residual.ensures (λ u q before there. no_bytes c.args.bytes.now c.args.at _ u q c.in_err-rest.ensures.cases there)
 
 pub returns-in_err-guard : goal.returns-in_err-guard
-returns-in_err-guard c = rw c.from_residual.ensures (record {
-  inside = tt;
-  placed = λ u q there.
-      no_guard c.args.bytes.now c.args.from c.args.at c.args.row c.args.rules.now (omega arith) u q there c.load_exprs.new.rules c.in_err-guard.ensures.placed;
-})
+returns-in_err-guard c =
+    let front = c.in_ok-rest.ensures.cases in
+    rw c.from_residual-in_err-guard.ensures (λ u q before there.
+    no_guard c.args.bytes.now c.args.at c.args.row c.args.rules.now _ front.0 front.2 u q before there c.load_exprs.new.rules c.in_err-guard.ensures)
 
-pub returns-then-bytes-guard : goal.returns-then-bytes-guard
-returns-then-bytes-guard c = record {
-  inside = tt;
-  placed = λ u q there.
-      no_count c.args.bytes.now c.args.from c.args.at c.args.row c.args.rules.now (omega arith) u q there _ c.in_ok-guard.guard
-      (omega arith) c.in_ok-guard.ensures.placed (omega arith);
-}
+pub returns-in_err-count : goal.returns-in_err-count
+returns-in_err-count c =
+    let front = c.in_ok-rest.ensures.cases in
+    rw c.from_residual-in_err-count.ensures (λ u q before there.
+    no_count c.args.bytes.now c.args.at c.args.row c.args.rules.now _ front.0 front.2 u q before there _ c.in_ok-guard.guard (omega arith)
+    c.in_ok-guard.ensures c.in_err-count.ensures.cases)
 
-pub returns-then-rules-table : goal.returns-then-rules-table
-returns-then-rules-table c = record {
-  inside = tt;
-  placed = λ u q there.
-      no_room c.args.bytes.now c.args.from c.args.at c.args.row c.args.rules.now (omega arith) u q there _ c.in_ok-guard.guard
-      (omega arith) c.in_ok-guard.ensures.placed (omega arith) (omega arith);
-}
+pub returns-in_err-checked_add : goal.returns-in_err-checked_add
+returns-in_err-checked_add c =
+    let front = c.in_ok-rest.ensures.cases in
+    let first = c.in_ok-count.ensures.cases in
+    rw c.from_residual-in_err-checked_add.ensures (λ u q before there.
+    no_room c.args.bytes.now c.args.at c.args.row c.args.rules.now _ front.0 front.2 u q before there _ c.in_ok-guard.guard (omega arith)
+    c.in_ok-guard.ensures c.from-count.result _ _ c.from-count.ensures first.0 (omega (arith, c.in_err-checked_add.ensures)))
 
 pub returns-in_err-end : goal.returns-in_err-end
-returns-in_err-end c = rw c.from_residual-in_err-end.ensures (record {
-  inside = tt;
-  placed = λ u q there.
-      no_others c.args.bytes.now c.args.from c.args.at c.args.row c.args.rules.now (omega arith) u q there _ c.in_ok-guard.guard
-      (omega arith) c.in_ok-guard.ensures.placed (omega arith) c.load_exprs-2.new.rules c.in_err-end.ensures.placed;
-})
+returns-in_err-end c =
+    let front = c.in_ok-rest.ensures.cases in
+    let first = c.in_ok-count.ensures.cases in
+    rw c.from_residual-in_err-end.ensures (λ u q before there.
+    no_others c.args.bytes.now c.args.at c.args.row c.args.rules.now _ front.0 front.2 u q before there _ c.in_ok-guard.guard (omega arith)
+    c.in_ok-guard.ensures c.from-count.result _ _ c.from-count.ensures first.0 c.load_exprs-2.new.rules _
+    c.in_ok-checked_add.ensures.1 c.in_err-end.ensures)
 
 pub returns : goal.returns
 returns c =
-    let guard = c.in_ok-guard.ensures.inside in
-    let others = c.in_ok-end.ensures.inside in
-    record {
-      inside = record { read = others.read; later = omega (arith, guard.later, others.later); free = omega (arith, others.free) };
-      placed = λ u q there.
-          rule_placed c.args.bytes.now c.args.from c.args.at c.args.row c.args.rules.now (omega arith) u q there _ c.in_ok-guard.guard
-          (omega arith) c.in_ok-guard.ensures.placed (omega arith) _ _ c.in_ok-end.end _ _ c.requires.before (c.from.ensures ∙ c.two_bytes.ensures.value)
-          (c.from-2.ensures ∙ c.two_bytes-2.ensures.value) c.in_ok-end.ensures.placed c.put_rule.ensures;
-    }
+    let front = c.in_ok-rest.ensures.cases in
+    let first = c.in_ok-count.ensures.cases in
+    λ u q before there.
+    rule_placed c.args.bytes.now c.args.at c.args.row c.args.rules.now _ front.0 front.2 u q before there _ c.in_ok-guard.guard (omega arith)
+    c.in_ok-guard.ensures c.from-count.result _ _ c.from-count.ensures first.0 _ _ c.in_ok-end.end _ _ _ c.in_ok-checked_add.ensures.1 (omega arith)
+    (c.from.ensures ∙ c.two_bytes.ensures.value) (c.from-2.ensures ∙ c.two_bytes-2.ensures.value) c.in_ok-end.ensures c.put_rule.ensures
