@@ -8,6 +8,7 @@ use super::progress::{Progress, Reader, Stage, Token};
 use super::taking::{take_number, take_word};
 use super::words::{bound_of, find_word};
 
+// Not `is_ascii_whitespace`, which takes a form feed too.
 fn is_white(b: u8) -> bool
     ensures { result ≡ white b }
 {
@@ -37,9 +38,8 @@ pub(super) fn settle(
 }
 
 // One more digit, if the number stays small enough.
-fn add_digit(n: u16, b: u8, i: usize, p: Progress) -> Option<Token>
-    requires { Room p i }
-    ensures { SameDigits (more_digits n b p) (i + 1) p result }
+fn add_digit(n: u16, b: u8, p: Progress) -> Option<Token>
+    ensures { (i : ℕ) → Room p i → SameDigits (more_digits n b p) (i + 1) p result }
 {
     if !b.is_ascii_digit() {
         return None;
@@ -67,10 +67,10 @@ fn add(text: &[u8], i: usize, token: Token, p: Progress) -> Option<Token>
     ensures { SameLexer (added (lexer_of text.now i token) (slice_index text.now i) p) text.now (i + 1) p result }
 {
     match token {
-        Token::Gap if text[i].is_ascii_digit() => add_digit(0, text[i], i, p),
+        Token::Gap if text[i].is_ascii_digit() => add_digit(0, text[i], p),
         Token::Gap => add_letter(text, i, i, p),
         Token::Comment => Some(Token::Comment),
-        Token::Digits(n) => add_digit(n, text[i], i, p),
+        Token::Digits(n) => add_digit(n, text[i], p),
         Token::Letters(from) => add_letter(text, from, i, p),
     }
 }

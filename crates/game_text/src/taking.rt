@@ -82,6 +82,7 @@ fn take_bound(n: u16, then: Stage, p: Progress, out: &mut [u8]) -> Progress
 }
 
 // A number that may come next.
+// How large `len` may be is asked for and kept by no field, since it comes from the place in the text.
 pub(super) fn take_number(n: u16, p: Progress, out: &mut [u8]) -> Progress
     requires { (n < bound p.stage p) × (p.len + slack p.stage + 2 < 2 ^ 64) }
     ensures { record { at = result; memory = out.new } ≡ number_taken p.stage n p out.old }
