@@ -5,7 +5,7 @@ ghost use Rattle.game_text.specs.Machine.{settled, more_digits, more_letters, ad
 ghost use Rattle.game_text.specs.Room.{Room, Roomy, Sane, lexer_of, machine_of, SameState, SameDigits, SameLexer, SameMachine};
 
 use super::progress::{Progress, Reader, Stage, Token};
-use super::taking::{take_number, take_word};
+use super::taking::Writer;
 use super::words::{bound_of, find_word};
 
 // Not `is_ascii_whitespace`, which takes a form feed too.
@@ -29,10 +29,16 @@ pub(super) fn settle(
 {
     match token {
         Token::Gap | Token::Comment => Some(p),
-        Token::Digits(n) => Some(take_number(n, p, out)),
+        Token::Digits(n) => {
+            let mut writer = Writer { at: p, out };
+            writer.take_number(n);
+            Some(writer.at)
+        }
         Token::Letters(from) => {
             let w = find_word(p, &text[from..i], true)?;
-            Some(take_word(w, p, out))
+            let mut writer = Writer { at: p, out };
+            writer.take_word(w);
+            Some(writer.at)
         }
     }
 }
