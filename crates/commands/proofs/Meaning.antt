@@ -1,6 +1,6 @@
 -- What a line stands for, by what it says and by its words.
 use Rattle.std.proofs.Common.{◌≡◌, ℕ, suc, ◌+◌, ◌*◌, ◌≤◌, min, cond, eqb, ltb, List, [], ◌∷◌, length, take, Ok, Err, Result, sym, refl, ap, ◌∙◌, inl, inr, ⊎_elim, arith}
-use Rattle.std.proofs.lemmas.List.{take_all, take-take, length-take-le}
+use Rattle.std.proofs.lemmas.List.{take_all, length-take-le}
 use Rattle.std.proofs.lemmas.Bool.{cases_lt, cond-false, ne_eqb}
 use Rattle.std.proofs.lemmas.Bool.Decides.{nat_tests}
 use Rattle.rules.specs.declared.Call.{Call}
@@ -35,23 +35,14 @@ first_tell n (k ∷ bs) l =
     ⊎_elim (λ h. too_long k (take n bs) (omega (arith, length-take-le n bs (omega arith))) ∙ sym (too_long k bs (omega arith)))
     (λ h. ap (λ xs. parse_call (k ∷ xs)) (take_all n bs h)) (cases_lt n (length bs))
 
--- as much as is kept
-kept_part : (room : ℕ) (bs kept : List ℕ) (count n : ℕ) → n ≡ min count room → take count kept ≡ take room bs → take n kept ≡ take room bs
-kept_part room bs kept count n e h =
-    ⊎_elim
-    (λ l.
-    let full : n ≡ room = omega arith in
-    ap (λ m. take m kept) full ∙ sym (take-take room count kept (omega arith)) ∙ ap (take room) h ∙ take-take room room bs (omega arith))
-    (λ l. let part : n ≡ count = omega arith in ap (λ m. take m kept) part ∙ h) (cases_lt room count)
-
 -- a line that says bytes
 pub by_bytes :
-    (line : List ℕ) (raw : Raw) (n : ℕ) → n ≡ min raw.count 22 → Kept (raw_of line) (Ok raw) → parse_call (take n raw.bytes) ≡ line_call line
+    (line : List ℕ) (raw : Raw) → Kept (raw_of line) (Ok raw) → parse_call (take raw.count raw.bytes) ≡ line_call line
 unfolding line_call
-by_bytes line raw n e h = by_answer (raw_of line) h
+by_bytes line raw h = by_answer (raw_of line) h
   where
-    by_answer : (r : Result (List ℕ) ℕ) → Kept r (Ok raw) → parse_call (take n raw.bytes) ≡ stands_for r (call_of line)
-    by_answer (Ok bs) k = ap parse_call (kept_part 22 bs raw.bytes raw.count n e k.1) ∙ first_tell 21 bs (omega arith)
+    by_answer : (r : Result (List ℕ) ℕ) → Kept r (Ok raw) → parse_call (take raw.count raw.bytes) ≡ stands_for r (call_of line)
+    by_answer (Ok bs) k = ap parse_call k.1 ∙ first_tell 21 bs (omega arith)
     by_answer (Err m) k = absurd k
 
 -- one that says none

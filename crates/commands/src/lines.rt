@@ -27,10 +27,7 @@ fn read_line(line: &[u8]) -> Result<Call, usize>
     ensures { result ≡ line_call line.now }
 {
     match text::read_bytes(line) {
-        Ok(raw) => {
-            let kept = raw.count.min(raw.bytes.len());
-            wire::read_call(&raw.bytes[0..kept])
-        }
+        Ok(raw) => wire::read_call(raw.kept()),
         Err(i) => match text::read_call(line) {
             Ok(call) => Ok(call),
             Err(j) => Err(i.max(j)),

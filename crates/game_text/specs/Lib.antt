@@ -5,3 +5,4 @@ pub mod Room
 pub mod Theorems
 pub mod Positions
 pub mod Expecting
+pub mod Writing

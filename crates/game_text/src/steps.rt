@@ -5,9 +5,10 @@ ghost use Rattle.game_text.specs.Machine.{settled, more_digits, more_letters, ad
 ghost use Rattle.game_text.specs.Room.{Room, Roomy, Sane, lexer_of, machine_of, SameState, SameDigits, SameLexer, SameMachine};
 
 use super::progress::{Progress, Reader, Stage, Token};
-use super::taking::{take_number, take_word};
+use super::taking::Writer;
 use super::words::{bound_of, find_word};
 
+// Not `is_ascii_whitespace`, which takes a form feed too.
 fn is_white(b: u8) -> bool
     ensures { result ≡ white b }
 {
@@ -28,18 +29,23 @@ pub(super) fn settle(
 {
     match token {
         Token::Gap | Token::Comment => Some(p),
-        Token::Digits(n) => Some(take_number(n, p, out)),
+        Token::Digits(n) => {
+            let mut writer = Writer { at: p, out };
+            writer.take_number(n);
+            Some(writer.at)
+        }
         Token::Letters(from) => {
             let w = find_word(p, &text[from..i], true)?;
-            Some(take_word(w, p, out))
+            let mut writer = Writer { at: p, out };
+            writer.take_word(w);
+            Some(writer.at)
         }
     }
 }
 
 // One more digit, if the number stays small enough.
-fn add_digit(n: u16, b: u8, i: usize, p: Progress) -> Option<Token>
-    requires { Room p i }
-    ensures { SameDigits (more_digits n b p) (i + 1) p result }
+fn add_digit(n: u16, b: u8, p: Progress) -> Option<Token>
+    ensures { (i : ℕ) → Room p i → SameDigits (more_digits n b p) (i + 1) p result }
 {
     if !b.is_ascii_digit() {
         return None;
@@ -67,10 +73,10 @@ fn add(text: &[u8], i: usize, token: Token, p: Progress) -> Option<Token>
     ensures { SameLexer (added (lexer_of text.now i token) (slice_index text.now i) p) text.now (i + 1) p result }
 {
     match token {
-        Token::Gap if text[i].is_ascii_digit() => add_digit(0, text[i], i, p),
+        Token::Gap if text[i].is_ascii_digit() => add_digit(0, text[i], p),
         Token::Gap => add_letter(text, i, i, p),
         Token::Comment => Some(Token::Comment),
-        Token::Digits(n) => add_digit(n, text[i], i, p),
+        Token::Digits(n) => add_digit(n, text[i], p),
         Token::Letters(from) => add_letter(text, from, i, p),
     }
 }

