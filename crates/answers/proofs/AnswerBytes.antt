@@ -70,7 +70,7 @@ shown_back bs p t e cs all =
       omega arith,
     )
 
-whole_is : (bs : List ℕ) (n : ℕ) (a : Answer) → length bs ≡ n → whole bs n a ≡ Some a
+pub whole_is : (bs : List ℕ) (n : ℕ) (a : Answer) → length bs ≡ n → whole bs n a ≡ Some a
 whole_is bs n a e = cond-true (eqb (length bs) n) (Some a) None (eq-eqb (length bs) n e)
 
 pub reads_back : AnswerReadsBack

@@ -6,9 +6,8 @@ use Rattle.std.specs.List.{slice_get}
 use Rattle.std.specs.Result.{result_ok}
 use Rattle.std.specs.Simd.{first_chunks}
 use Rattle.std.proofs.Math.Nat.{mul_comm, mul-div_cancel_left}
-use Rattle.std.proofs.lemmas.Bool.{cond-true, cond-false, eq-eqb, ne_eqb}
+use Rattle.std.proofs.lemmas.Bool.{cond-false, ne_eqb}
 use Rattle.std.proofs.lemmas.List.{take-take, drop-take, drop-drop, length-take-le, length-drop}
-use Rattle.rules.specs.Calls.{Answer}
 use Rattle.wire.specs.Numbers.{bytes_value}
 use Rattle.wire.specs.Fields.{field_at, fields_at}
 use Rattle.answers.specs.declared.kinds.AnswerKind.{AnswerKind}
@@ -18,14 +17,11 @@ use Rattle.answers.specs.Answers.{moves_at, whole, parse_as, parse_answer}
 use Rattle.answers.specs.Kinds.{kind_number, IsKind}
 use Rattle.answers.specs.Reading.{numbers_in, move_in, moves_in, answer_of, answer_read}
 
--- a reply that is made just of as many bytes as it wants, by a test and where the test is passed
+-- a reply that is made just of as many bytes as it wants
 pub read_whole : (bs : List ℕ) (n : ℕ) (x : Reply) {r : Option Reply} → r ≡ then_some (eqb (length bs) n) x → answer_read r ≡ whole bs n (answer_of x)
 read_whole bs n x {r} is =
     ap answer_read is
     ∙ elim (eqb (length bs) n) as (λ b. answer_read (then_some b x) ≡ cond b (Some (answer_of x)) None) [ true ↦ refl | false ↦ refl ]
-
-pub whole_is : (bs : List ℕ) (n : ℕ) (a b : Answer) → length bs ≡ n → a ≡ b → Some a ≡ whole bs n b
-whole_is bs n a b l e = ap Some e ∙ sym (cond-true (eqb (length bs) n) (Some b) None (eq-eqb (length bs) n l))
 
 -- the numbers in the four bytes each, and the moves in the twelve, that stand from place i on
 four : (xs : List ℕ) → from_le_bytes w32 (take 4 xs) ≡ bytes_value (take 4 xs)

@@ -1,8 +1,9 @@
-use Rattle.std.proofs.Common.{◌≡◌, ◌+◌, ◌-◌, ◌*◌, length, ap, ◌∙◌, arith}
+use Rattle.std.proofs.Common.{◌≡◌, ◌+◌, ◌-◌, ◌*◌, length, Some, sym, ap, ◌∙◌, arith}
 use Rattle.rules.specs.Calls.{shown}
 use Rattle.wire.specs.Fields.{field_at, fields_at}
 use Rattle.answers.specs.Answers.{cell_count, after_cells, clock_count, shown_at}
-use Rattle.answers.proofs.ReadingLemmas.{whole_is, numbers_read}
+use Rattle.answers.proofs.AnswerBytes.{whole_is}
+use Rattle.answers.proofs.ReadingLemmas.{numbers_read}
 use Rattle.answers.proofs.reading.read_shown.Goals as goal
 
 pub returns : goal.returns
@@ -16,5 +17,7 @@ returns c =
     let last =
     numbers_read bs (5 + 4 * n + 12) (clock_count bs) (length bs - (5 + 4 * n + 12)) (omega arith) (omega arith) c.as_chunks-2.ensures.front
     ∙ ap (λ k. fields_at bs (k + 12) (clock_count bs)) after in
-    whole_is bs (after_cells bs + 12 + 4 * clock_count bs) _ (shown_at bs) size
-    (λ j. shown (first j) ((c.field_at-2.ensures ∙ ap (field_at bs) after) j) ((c.field_at-3.ensures ∙ ap (λ k. field_at bs (k + 4)) after) j) (last j))
+    (λ j.
+    Some
+    (shown (first j) ((c.field_at-2.ensures ∙ ap (field_at bs) after) j) ((c.field_at-3.ensures ∙ ap (λ k. field_at bs (k + 4)) after) j) (last j)))
+    ∙ sym (whole_is bs (after_cells bs + 12 + 4 * clock_count bs) (shown_at bs) size)
