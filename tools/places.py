@@ -51,8 +51,9 @@ def option_or_result():
     yield from found(r"let (?:Some|Ok)\((?:[^()]|\([^()]*\))*\) = [^;{]*(?:\{[^{}]*\}[^;{]*)?else \{\s*return (?:None|false|Err\((?:[^;])*?\));\s*\}")
     yield from found(r"Refusal \{\s*number: \d")
     yield from found(r"\bkind: u(?:8|32)\b|\b(?:LAST_KIND|kind) [<>]=? |match kind \{\s*\d|const LAST_KIND")
-    for name in ("enum Loaded", "enum Step ", "enum Asked", "good: bool", "fn open_tables", "fn load_game", "fn exactly", "fn known_kind"):
+    for name in ("    Wrong,", "pub enum Loaded", "pub enum Asked", "pub enum Reply {\n    // the line", "good: bool", "fn exactly", "fn known_kind"):
         yield from found(re.escape(name))
+    yield from found(r"fn (?:open_tables|load_game)\([^)]*\) -> bool")
 
 
 def shape(name, body):
@@ -77,12 +78,12 @@ def twins():
         if len(group) > 1:
             for crate, place, name in group:
                 yield crate, place, f"{name}, of {len(group)}: {text[:60]}"
-    for name in ("fn put_cell(", "fn two_bytes(", "fn byte_at(", "fn is_digit(", "fn put_two(", "fn put_field(", "const LAST_KIND", "const LEVELS", "const MOST_LEVELS", "fn put_effects("):
+    for name in ("fn put_cell(", "fn two_bytes(", "fn byte_at(", "fn is_digit(", "fn put_two(", "fn put_field(", "const LAST_KIND", "fn put_effects("):
         yield from found(re.escape(name))
 
 
 def index_loops():
-    yield from found(r"while [^{]*\{")
+    yield from found(r"(?<!// )\bwhile [^{/]*\{")
     yield from found(r"for (\w+) in [^{]*\.\.[^{]*\{(?=[^{}]*\[[^\]]*\b\1\b)")
 
 

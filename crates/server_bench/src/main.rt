@@ -54,37 +54,17 @@ fn show_gains(rt: &HostRuntime, rules: &[u32], gain: u32, cells: &[u32]) -> anyh
     Ok(())
 }
 
-fn best_of_boards(
-    rt: &HostRuntime,
-    rules: &[u32],
-    over: u32,
-    cells: &mut [u32],
-    turns: u32,
-) -> anyhow::Result<()> {
+// How long the best of so many runs took.
+fn best_of<F: FnMut()>(rt: &HostRuntime, name: &str, turns: u32, mut work: F) -> anyhow::Result<()>
+    requires { F.IsAlwaysCallable work }
+{
     let mut best = u128::MAX;
     for _ in 0..turns {
         let start = Instant::now(rt)?;
-        rows_of_three(rules, over, cells);
+        work();
         best = best.min(start.elapsed(rt)?.as_nanos());
     }
-    println!(rt; "boards: best {best} ns")?;
-    Ok(())
-}
-
-fn best_of_listings(
-    rt: &HostRuntime,
-    rules: &[u32],
-    positions: &[u32],
-    answer: &mut [u8],
-    turns: u32,
-) -> anyhow::Result<()> {
-    let mut best = u128::MAX;
-    for _ in 0..turns {
-        let start = Instant::now(rt)?;
-        list_all(rules, positions, answer);
-        best = best.min(start.elapsed(rt)?.as_nanos());
-    }
-    println!(rt; "listings: best {best} ns")?;
+    println!(rt; "{name}: best {best} ns")?;
     Ok(())
 }
 
@@ -107,8 +87,12 @@ fn main(rt: HostRuntime) -> anyhow::Result<()> {
     println!(rt; "{listed} moves are listed in {reached} positions")?;
     let turns = times(&rt)?;
     if turns > 0 {
-        best_of_boards(&rt, &rules, game.terminal, &mut cells, turns)?;
-        best_of_listings(&rt, &rules, &positions, &mut answer, turns)?;
+        best_of(&rt, "boards", turns, || {
+            rows_of_three(&rules, game.terminal, &mut cells);
+        })?;
+        best_of(&rt, "listings", turns, || {
+            list_all(&rules, &positions, &mut answer);
+        })?;
     }
     Ok(())
 }
