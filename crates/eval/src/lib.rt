@@ -65,7 +65,7 @@ fn row_of(kind: u32, a: u32, b: u32, c: u32) -> Row
     }
 }
 
-// The row at `at`: one test serves its four words. By index: a slice pattern over `get` made evaluation slower by 6 %.
+// The row at `at`: one test serves its four words. By index: with a slice pattern over `get`, evaluation took 5 % longer.
 fn row_at(rules: &[u32], at: u32) -> Row
     ensures { result ≡ row_at rules.now at }
 {

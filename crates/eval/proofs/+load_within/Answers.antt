@@ -23,12 +23,6 @@ returns-then-eq t c =
 pub loop-j-init : goal.loop-j-init
 loop-j-init t c = ([], no_parts c.args.bytes.now c.args.rules.now _ c.args.at _ refl c.in_ok-kind.ensures.0)
 
-pub slice_bounds-load_within-count : goal.slice_bounds-load_within-count
-slice_bounds-load_within-count t c = omega (arith, c.loop-j.invariant.1.within)
-
-pub slice_bounds-load_within-start : goal.slice_bounds-load_within-start
-slice_bounds-load_within-start t c = omega (arith, c.loop-j.invariant.1.within)
-
 pub returns-in_err-part : goal.returns-in_err-part
 returns-in_err-part t c =
     let bs = c.args.bytes.now in

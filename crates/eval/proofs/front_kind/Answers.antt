@@ -16,6 +16,3 @@ returns-in_err-kind c =
 pub returns-then-bytes-width : goal.returns-then-bytes-width
 returns-then-bytes-width c =
     (refl, too_short c.args.bytes.now _ _ (grind (arith, c.in_ok-kind.ensures)) (grind arith) c.if-bytes-width.true c.width.ensures.number c.width.ensures.other)
-
-pub returns : goal.returns
-returns c = (grind arith, grind arith, λ z. grind arith)
