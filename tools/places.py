@@ -79,12 +79,13 @@ def twins():
             for crate, place, name in group:
                 yield crate, place, f"{name}, of {len(group)}: {text[:60]}"
     for name in ("fn put_cell(", "fn two_bytes(", "fn byte_at(", "fn is_digit(", "fn put_two(", "fn put_field(", "const LAST_KIND", "fn put_effects("):
-        yield from found(re.escape(name))
+        group = list(found(re.escape(name)))
+        yield from group if len(group) > 1 else []
 
 
 def index_loops():
     yield from found(r"(?<!// )\bwhile [^{/]*\{")
-    yield from found(r"for (\w+) in [^{]*\.\.[^{]*\{(?=[^{}]*\[[^\]]*\b\1\b)")
+    yield from found(r"for (\w+) in [^{]*\.\.[^{]*\{(?=[^{}]*\[[^\].]*\b\1\b[^\].]*\])")
 
 
 def by_hand():
@@ -120,7 +121,7 @@ def buffers():
 
 
 def steps():
-    yield from found(r"let (?:best|found) = \w+\(")
+    yield from found(r"(?:= |\n    )(?:seek|better_of)\(")
     yield from found(r"match (?:stage|p\.stage|awaits|awaits) \{")
 
 

@@ -14,6 +14,7 @@ const WON: [u32; 10] = [1, 1, 1, 1, 2, 2, 0, 0, 0, 0];
 
 const DRAWN: [u32; 10] = [1, 1, 2, 1, 1, 2, 2, 2, 1, 1];
 
+// What goes through the boards is as in `server_bench`, which prints other lines: in a crate for both, four functions would be public that nothing else calls.
 // The board after this one: cells 1 to 9 count up in threes.
 fn next_board(cells: &mut [u32]) {
     for x in cells.iter_mut().skip(1) {

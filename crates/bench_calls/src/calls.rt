@@ -9,7 +9,7 @@ const GAME: &[u8] = b"\x02\x02\x00\x00\x00\x00\x00\x01\
     \x01\x00\x01\x00\x00\x01\x00\x01\x00\x00\x00\x06\x00\x01\x00\x01\x00\x00\x00\
     \x00\x00\x00\x00\x00\x00";
 
-// Kinds of calls, and of the answers to those that are not refused.
+// Kinds of calls, and of the answers to those that are not refused: as bytes, so that what is measured is the server's work alone.
 const PLAY: u8 = 1;
 
 const SEE: u8 = 3;
@@ -33,26 +33,22 @@ pub(crate) fn new_server(heap: Global, tables: u32, moves: u32) -> anyhow::Resul
         moves,
         positions: 0,
     };
-    let Ok(sizes) = needs(limits, GAME) else {
-        return Err(anyhow!("the game is not good"));
-    };
+    let sizes = needs(limits, GAME).map_err(|_| anyhow!("the game is not good"))?;
     let mut server = Server {
         rules: vec![in heap; 0; sizes.rules]?,
         state: vec![in heap; 0; sizes.state]?,
         scratch: vec![in heap; 0; sizes.scratch]?,
         answer: vec![in heap; 0; sizes.answer]?,
     };
-    let opened = open(
+    open(
         limits,
         GAME,
         &mut server.rules,
         &mut server.state,
         &server.scratch,
         &server.answer,
-    );
-    if opened.is_err() {
-        return Err(anyhow!("no server was opened"));
-    }
+    )
+    .map_err(|_| anyhow!("no server was opened"))?;
     Ok(server)
 }
 

@@ -6,6 +6,7 @@ ghost use Rattle.commands.specs.Lines.{line_call, LineCallMeans, Replies};
 
 use rules::{Call, Refusal};
 
+// Three outcomes by names, which an Option of a Result would not have.
 #[derive(Clone, Copy, PartialEq, Eq, Debug)]
 pub enum Reply {
     // the line is blank or a comment

@@ -107,6 +107,7 @@ fn answer_input<R: io::Read + Drop>(rt: &HostRuntime, input: R) -> anyhow::Resul
     }
 }
 
+// As in the other console: for three lines a crate of their own would be no plainer.
 fn word_at(words: &[String], i: usize) -> &str {
     words.get(i).map_or("", |word| word.as_str())
 }

@@ -50,7 +50,7 @@ fn kind_of(word: u32) -> Option<ExprKind>
     ExprKind::try_from(byte).ok()
 }
 
-// The row of four words: where the first tells no kind, it is that of the number 0.
+// The row of four words of memory: where the first tells no kind, it is that of the number 0.
 fn row_of(kind: u32, a: u32, b: u32, c: u32) -> Row
     ensures { result ≡ row_of kind a b c }
 {

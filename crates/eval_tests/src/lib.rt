@@ -8,7 +8,7 @@ mod tests {
 
     const MOST: u32 = 65535;
 
-    // The value of an expression of this kind, of two numbers.
+    // The value of an expression of this kind, of two numbers. Kinds are the numbers that memory has for them.
     fn of_two(kind: u32, x: u32, y: u32) -> u32 {
         let rules = [0, x, 0, 0, 0, y, 0, 0, kind, 0, 4, 0];
         eval(&rules, 8, &[7], 0, 0, 0)

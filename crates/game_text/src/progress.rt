@@ -15,7 +15,7 @@ pub enum Part {
     Payoff,
 }
 
-// What is awaited.
+// What is awaited: data that a text drives, so that each step matches on it. Closures in its place would hide which stages there are.
 #[derive(Clone, Copy)]
 pub enum Stage {
     PlayersWord,

@@ -59,6 +59,7 @@ fn add_digit(n: u16, b: u8, p: Progress) -> Option<Token>
 }
 
 // One more letter of the word that began at `from`, if a word may go on so.
+// Here and below the place is asked for by each step and kept by no struct, since it moves with each byte.
 fn add_letter(text: &[u8], from: usize, i: usize, p: Progress) -> Option<Token>
     requires { (i < length text.now) × ((from ≤ i) × (Room p i)) }
     ensures { SameLexer (more_letters (slice_range text.now from i) (slice_index text.now i) p) text.now (i + 1) p result }

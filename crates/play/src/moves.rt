@@ -18,7 +18,7 @@ pub fn turn(rules: &[u32], cells: &[u32]) -> u32
         .unwrap_or(0)
 }
 
-// Whether a move is legal.
+// Whether a move is legal. Test by test: in a closure of `is_some_and` the three tests are no plainer.
 pub fn is_legal(rules: &[u32], cells: &[u32], played: Move) -> bool
     ensures { result ≡ meaning.is_legal (game_at rules.now) cells.now played }
 {

@@ -5,6 +5,7 @@ ghost use Rattle.std.specs.Prelude.{◌≡◌, ◌≤◌};
 pub(super) const MOST: usize = 22;
 
 // The bytes of a call, or of what stands in place of one: so many of them, from the first on.
+// No ArrayVec: a call is written into a buffer, of which it would be a second one.
 #[derive(Clone, Copy)]
 pub struct CallBytes {
     pub bytes: [u8; MOST],

@@ -6,6 +6,7 @@ ghost use Rattle.server_commands.specs.Lines.{Holds, Says, Asks, ReadAsSaid};
 use super::kept::{CallBytes, MOST};
 use rules::Call;
 
+// Three outcomes by names, which an Option of a Result would not have.
 #[derive(Clone, Copy)]
 pub enum Asked {
     // the line is blank or a comment

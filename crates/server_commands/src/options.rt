@@ -117,6 +117,7 @@ impl Given {
     }
 }
 
+// What is asked for. One line over what all programs share: a generic function for it would be no plainer.
 pub fn read_request(words: &[String]) -> Result<Request, Fault>
     ensures { result ≡ request_of (map string_bytes words.now) }
 {

@@ -4,6 +4,7 @@
 use std::env;
 use std::process::ExitCode;
 
+// Each program names the console that it calls: taking that as a parameter would be no plainer.
 fn run(rt: &HostRuntime) -> anyhow::Result<()> {
     let words: Vec<String> = env::args(rt)?.skip(1).collect(rt.alloc())?;
     for pair in words.as_slice().chunks(2) {

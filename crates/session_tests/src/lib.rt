@@ -338,9 +338,13 @@ mod tests {
             [sizes.rules, sizes.state, sizes.scratch, sizes.answer],
             SIZES
         );
-        for k in 0..4usize {
-            let mut short = SIZES;
-            short[k] = short[k].saturating_sub(1);
+        let [rules, state, scratch, answer] = SIZES;
+        for short in [
+            [rules - 1, state, scratch, answer],
+            [rules, state - 1, scratch, answer],
+            [rules, state, scratch - 1, answer],
+            [rules, state, scratch, answer - 1],
+        ] {
             assert_eq!(rt; refused(&rt, rt.alloc(), TWO, PILE, short)?, (3, 2));
         }
         Ok(())

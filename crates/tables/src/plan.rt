@@ -110,7 +110,7 @@ pub fn sizes_for(limits: Limits, size: GameSize) -> Option<Sizes>
     })
 }
 
-// Writes the header of a server that has just been opened, and says whether it could: limits and size are good, and memory is long enough.
+// Writes the header of a server that has just been opened, and says whether it could, with no value beside that which an Option would hold: limits and size are good, and memory is long enough.
 pub fn open_tables(limits: Limits, size: GameSize, state: &mut [u32]) -> bool
     ensures after { state.new ≡ (opening limits size state.old).0 }
     ensures could { result ≡ (opening limits size state.old).1 }

@@ -19,7 +19,7 @@ const FIRST: usize = 7;
 
 pub(crate) const LINK: usize = 8;
 
-// The cells of a new table.
+// The cells of a new table. By index: through iter_mut a proof knows only lengths.
 fn put_start(rules: &[u32], cells: &mut [u32])
     requires { length cells.old ≤ 256 }
     ensures { cells.new ≡ start_cells (game_at rules.now) (length cells.old) }

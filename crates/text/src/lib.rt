@@ -160,6 +160,7 @@ impl<'a> Cursor<'a> {
     }
 }
 
+// Each reader says its call's form in three lines: one over the word and the call would be no plainer.
 fn sit(line: &[u8]) -> Result<Call, usize>
     ensures { result ≡ fit sit_form 0 line.now 0 }
 {

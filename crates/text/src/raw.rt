@@ -25,6 +25,7 @@ impl Raw {
     }
 }
 
+// Data that a line drives, so that each step matches on it: closures in its place would hide what may be awaited.
 // What may come next: white space, as after the word and after each pair of digits; white space or a digit; or the second digit of a pair, after a first of this value.
 #[derive(Clone, Copy)]
 enum Awaits {

@@ -90,6 +90,7 @@ mod tests {
 
     #[test]
     fn replies(rt: HostRuntime) {
+        // by the numbers that are told
         let cannot = Reply::Refused(Refusal {
             number: 2,
             place: 0,

@@ -337,7 +337,7 @@ mod tests {
         Ok(())
     }
 
-    // How many bytes a call with this first byte has; 0 if there is no such call.
+    // How many bytes a call with this first byte has, by the numbers of the format; 0 if there is no such call.
     fn right_length(kind: u8) -> usize {
         match kind {
             0 | 2 | 3 | 4 => 5,
