@@ -202,7 +202,7 @@ mod tests {
         let memory = memory_of(WIDE);
         let mut from = at(0, 0, 0);
         for _ in 0..MOVES {
-            let v = next_move(&memory, &[0], from).ok_or(Fail::new("there are more"))?;
+            let v = next_move(&memory, &[0], from).ok_or_else(|| Fail::new("there are more"))?;
             from = at(v.rule, v.first, v.second.saturating_add(1));
         }
         assert_eq!(rt; from, at(1, 7, 256));
