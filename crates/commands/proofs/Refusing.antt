@@ -1,10 +1,8 @@
 -- A server that can do no call refuses each by 2.
-use Rattle.std.proofs.Common.{◌≡◌, ℕ, ◌<◌, ◌≤◌, sym, refl, ap, ◌∙◌, arith}
-use Rattle.std.proofs.lemmas.Bool.Decides.{nat_tests}
+use Rattle.std.proofs.Common.{◌≡◌, sym, refl, ap, ◌∙◌}
 use Rattle.rules.specs.declared.Limits.{Limits}
 use Rattle.rules.specs.declared.Refusal.{Refusal}
 use Rattle.rules.specs.declared.Call.{Call}
-use Rattle.rules.specs.declared.Call.TheVariants.{Sit, Play, Ticks, See, May, Back, CanForce}
 use Rattle.rules.specs.Calls.{State, answer, refusal, refusal_place, no_calls, refused}
 
 pub refuses_all : (c : Call) (l : Limits) (s : State) → answer no_calls l s c ≡ refused (record { number = 2; place = refusal_place c 2 })

@@ -1,5 +1,5 @@
 -- Which limit is larger than a server may have. Assumes nothing: these are definitions.
-use Rattle.std.specs.Prelude.{ℕ, cond, Some, None, Option, nat_lt}
+use Rattle.std.specs.Prelude.{cond, Some, None, Option, nat_lt}
 use Rattle.rules.specs.declared.Limits.{Limits}
 use Rattle.rules.specs.declared.Limit.TheVariants.{Tables, Moves, Positions}
 use Rattle.commands.specs.declared.limits.TooMany.{TooMany}

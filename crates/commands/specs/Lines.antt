@@ -1,5 +1,5 @@
 -- What is answered to a line of a calls file. Assumes nothing: these are definitions.
-use Rattle.std.specs.Prelude.{◌≡◌, ℕ, ◌-◌, max, cond, ◌&&◌, ◌⊎◌, List, length, take, Ok, Err, MatchBool, Result, MatchResult, ◌==◌, nat_le, slice_index}
+use Rattle.std.specs.Prelude.{◌≡◌, ℕ, max, ◌⊎◌, List, Ok, Err, MatchBool, Result, MatchResult}
 use Rattle.rules.specs.declared.Limits.{Limits}
 use Rattle.rules.specs.Calls.{State, Answer, refused, no_calls, answer}
 use Rattle.rules.specs.declared.Call.{Call}

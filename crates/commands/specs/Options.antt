@@ -1,6 +1,7 @@
 -- What the words of a command line ask for. Assumes nothing: these are definitions.
-use Rattle.std.specs.Prelude.{ℕ, Bool, true, false, cond, ◌&&◌, List, length, Some, None, Ok, Err, codes, Option, Result, ◌==◌, nat_lt, slice_index}
+use Rattle.std.specs.Prelude.{String, string_bytes, slice_get, [], ℕ, Bool, true, false, cond, ◌&&◌, List, length, Some, None, Ok, Err, codes, Option, Result, ◌==◌, nat_lt, slice_index}
 use Rattle.std.specs.Str.{bytes_eq}
+use Rattle.std.specs.Option.{option_map_or}
 use Rattle.text.specs.Grammar.{number_of}
 use Rattle.commands.specs.Faults.{and_then, taken}
 use Rattle.rules.specs.declared.Limit.TheVariants.{Tables, Moves, Positions}
@@ -62,3 +63,7 @@ nothing_given = record { help = false; limits = usual_limits; awaited = None; ga
 
 unfoldable pub request_of : List (List ℕ) → Result Request Fault
 request_of ws = and_then (taken with_word nothing_given ws 0) asked
+
+-- a word of a command line, of no letters where there is none
+abbrev pub word_of : {Z : Type 0} → List (String Z) → ℕ → List ℕ
+word_of ws i = option_map_or string_bytes (slice_get ws i) []

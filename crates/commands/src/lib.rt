@@ -7,4 +7,4 @@ mod options;
 
 pub use limits::{TooMany, first_too_many};
 pub use lines::{Reply, line_call_means, reply_to};
-pub use options::{Fault, Given, Request, TakesWords, read_request, take_words};
+pub use options::{Fault, Given, Request, TakesWords, read_request, take_words, word_at};

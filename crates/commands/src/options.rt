@@ -2,7 +2,7 @@
 ghost use Rattle.std.specs.Prelude.{◌≡◌, ℕ, List, Result, map, string_bytes};
 ghost use Rattle.commands.specs.declared.options.Fault.{Fault};
 ghost use Rattle.commands.specs.Faults.{taken};
-ghost use Rattle.commands.specs.Options.{word_kind, nothing_given, with_kind, with_file, with_word, asked, request_of};
+ghost use Rattle.commands.specs.Options.{word_kind, nothing_given, with_kind, with_file, with_word, asked, request_of, word_of};
 
 use rules::{Limit, Limits};
 
@@ -157,6 +157,13 @@ impl TakesWords for Given {
             ..self
         })
     }
+}
+
+// A word of a command line; of a place where there is none, no letters.
+pub fn word_at(words: &[String], at: usize) -> &str
+    ensures { result.now ≡ word_of words.now at }
+{
+    words.get(at).map_or("", |word| word.as_str())
 }
 
 // What is asked for. One line over what all programs share: a generic function for it would be no plainer.

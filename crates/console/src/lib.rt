@@ -6,7 +6,7 @@ ghost use Rattle.commands.specs.Options.{request_of};
 ghost use Rattle.console.specs.Ends.{refused_words};
 
 use anyhow::anyhow;
-use commands::{Fault, Reply, Request, first_too_many, read_request, reply_to};
+use commands::{Fault, Reply, Request, first_too_many, read_request, reply_to, word_at};
 use std::fs::File;
 use std::io::{BufRead, BufReader, BufWriter, Write};
 use std::{fmt, fs, io};
@@ -105,11 +105,6 @@ fn answer_input<R: io::Read + Drop>(rt: &HostRuntime, input: R) -> anyhow::Resul
             format_args!("calls can't be read, or answers written: {e}"),
         ),
     }
-}
-
-// As in the other console: for three lines a crate of their own would be no plainer.
-fn word_at(words: &[String], i: usize) -> &str {
-    words.get(i).map_or("", |word| word.as_str())
 }
 
 fn complain(rt: &HostRuntime, words: &[String], fault: Fault) -> anyhow::Result<()>

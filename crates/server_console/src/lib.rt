@@ -7,7 +7,7 @@ ghost use Rattle.server_console.specs.Ends.{refused_words};
 
 mod games;
 
-use commands::{Fault, first_too_many};
+use commands::{Fault, first_too_many, word_at};
 use games::{fail, open_game, refuse, show_game, write_game};
 use printing::print_answer;
 use rules::Limits;
@@ -161,11 +161,6 @@ fn answer_input<R: io::Read + Drop>(
             format_args!("calls can't be read, or answers written: {e}"),
         )),
     }
-}
-
-// As in the other console: for three lines a crate of their own would be no plainer.
-fn word_at(words: &[String], i: usize) -> &str {
-    words.get(i).map_or("", |word| word.as_str())
 }
 
 // What is wrong with the words of the command line.
