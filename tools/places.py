@@ -84,14 +84,14 @@ def twins():
 
 
 def index_loops():
-    yield from found(r"(?<!// )\bwhile [^{/]*\{")
+    yield from found(r"(?<!// )\bwhile (?!pending)[^{/]*\{")
     yield from found(r"for (\w+) in [^{]*\.\.[^{]*\{(?=[^{}]*\[[^\].]*\b\1\b[^\].]*\])")
 
 
 def by_hand():
     yield from found(r"[\w\])] as (?:u8|u16|u32|u64|usize)\b")
     yield from found(r"if [^{}]*\{\s*[01]\s*\} else \{\s*[01]\s*\}")
-    yield from found(r"fn (?:word_of|is_below|is_equal|words_for|is_digit|put_field|begin|node_of|kind_of)\b")
+    yield from found(r"fn (?:word_of\(b: bool|words_for|is_digit|begin\(|node_of|kind_of)\b")
 
 
 def repeated_facts():
@@ -116,7 +116,7 @@ def repeated_facts():
 
 def buffers():
     yield from found(r"\[u(?:8|32); \w+\],?\s*(?:pub )?count|count: usize,\n\}")
-    for name in ("struct Row ", "struct Head ", "struct Skip ", "struct Spot ", "struct End ", "places = [0u32; 3]", "enum Node "):
+    for name in ("pub struct Row {", "struct Head ", "struct Skip ", "struct Spot ", "struct End ", "places = [0u32; 3]", "enum Node "):
         yield from found(re.escape(name))
 
 

@@ -3,8 +3,8 @@
 
 #[cfg(test)]
 mod tests {
-    use rules::Limits;
     use commands::Fault;
+    use rules::Limits;
     use server_commands::{Asked, Request, read_line, read_request};
     use std::alloc::{AllocError, Global};
     use std::test::Fail;
