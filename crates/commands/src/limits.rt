@@ -3,14 +3,8 @@ ghost use Rattle.std.specs.Prelude.{◌≡◌, is_none};
 ghost use Rattle.rules.specs.Bounds.{good_limits};
 ghost use Rattle.commands.specs.Limits.{too_many};
 
-use rules::{Limit, Limits};
+use rules::{Limit, Limits, MOST_MOVES, MOST_POSITIONS, MOST_TABLES};
 use std::fmt;
-
-const MOST_TABLES: u32 = 1024;
-
-const MOST_MOVES: u32 = 1_000_000;
-
-const MOST_POSITIONS: u32 = 8192;
 
 // A limit that is larger than a server may have, and what was asked for.
 #[derive(Clone, Copy, PartialEq, Eq, Debug)]

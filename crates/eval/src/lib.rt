@@ -155,6 +155,7 @@ impl Evaluator<'_> {
     }
 }
 
+// As callers have them, six parameters: a struct that is made for one call is no plainer.
 // The value of the expression at `at` where the position is `cells`, for a move's two numbers and the player `me`.
 pub fn eval(rules: &[u32], at: u32, cells: &[u32], first: u32, second: u32, me: u32) -> u32
     ensures { result ≡ value_of_lem (expr_at rules.now at) cells.now first second me }
@@ -238,7 +239,7 @@ fn load_within(bytes: &[u8], levels: u32, rules: &mut [u32], at: u32) -> Result<
     let mut places = [0; 3];
     let mut used = 1;
     let mut next = at;
-    // By index: through iter_mut a proof knows only lengths.
+    // By index: after `take` a proof knows nothing of what was written through iter_mut.
     for j in 0..kind.arity() {
         let part = load_within(&bytes[used..], levels - 1, rules, next)?;
         places[j] = part.root;

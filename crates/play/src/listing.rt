@@ -15,6 +15,7 @@ use rows::read_game;
 use rules::Move;
 use wire::put_field;
 
+// Not by `write_list_head`, since there may be more moves than four bytes can count.
 // The kind of a list in an answer, and how many bytes stand before its moves.
 const LIST: u8 = 3;
 
@@ -23,6 +24,7 @@ const HEAD: usize = 5;
 const MOVE_BYTES: usize = 12;
 
 impl Rule<'_> {
+    // The answer and the count of its moves go along: in a struct with the `&mut` no ghost field could say that they have room.
     // Lists the legal moves with one first number, after `before` others. Says how many there are then, or None where they have no room.
     fn list_seconds(&self, first: u32, answer: &mut [u8], before: usize) -> Option<usize>
         requires below { first < self.now.row.first_bound }

@@ -2,7 +2,7 @@
 #![tactic(auto)]
 
 ghost use Rattle.std.specs.Prelude.{◌≡◌};
-ghost use Rattle.rules.specs.Bounds.{with_limit, usual_limits};
+ghost use Rattle.rules.specs.Bounds.{good_limits, with_limit, usual_limits};
 ghost use Rattle.rules.specs.Calls.{refusal_place};
 ghost use Rattle.rules.specs.Reasons.{refusal_by};
 
@@ -32,7 +32,21 @@ pub enum Limit {
     Positions,
 }
 
+// The largest that a server may have.
+pub const MOST_TABLES: u32 = 1024;
+
+pub const MOST_MOVES: u32 = 1_000_000;
+
+pub const MOST_POSITIONS: u32 = 8192;
+
 impl Limits {
+    // Whether a server may have them.
+    pub fn are_good(self) -> bool
+        ensures { result ≡ good_limits self }
+    {
+        self.tables <= MOST_TABLES && self.moves <= MOST_MOVES && self.positions <= MOST_POSITIONS
+    }
+
     // The same but for one of them.
     pub fn with(self, limit: Limit, n: u32) -> Limits
         ensures { result ≡ with_limit self limit n }

@@ -1,15 +1,14 @@
 // The bytes of a call, kept.
 ghost use Rattle.std.specs.Prelude.{◌≡◌, ◌≤◌};
 
-// How many bytes are kept. No call has more than 21, so these are enough to tell a call from what is longer.
-pub(super) const MOST: usize = 22;
+use text::MOST_KEPT;
 
 // The bytes of a call, or of what stands in place of one: so many of them, from the first on.
-// No ArrayVec: a call is written into a buffer, of which it would be a second one.
+// No ArrayVec, which can't be copied as what a line asks is.
 #[derive(Clone, Copy)]
 pub struct CallBytes {
-    pub bytes: [u8; MOST],
-    pub count: usize,
+    pub(super) bytes: [u8; MOST_KEPT],
+    pub(super) count: usize,
     ghost few: { count ≤ 22 },
 }
 

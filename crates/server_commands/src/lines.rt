@@ -3,8 +3,9 @@ ghost use Rattle.std.specs.Prelude.{◌≡◌};
 ghost use Rattle.wire.specs.Calls.{call_bytes};
 ghost use Rattle.server_commands.specs.Lines.{Holds, Says, Asks, ReadAsSaid};
 
-use super::kept::{CallBytes, MOST};
+use super::kept::CallBytes;
 use rules::Call;
+use text::MOST_KEPT;
 
 // Three outcomes by names, which an Option of a Result would not have.
 #[derive(Clone, Copy)]
@@ -20,7 +21,7 @@ pub enum Asked {
 fn keep_call(call: Call) -> CallBytes
     ensures { Holds (call_bytes call) result }
 {
-    let mut kept = [0; MOST];
+    let mut kept = [0; MOST_KEPT];
     let count = wire::write_call(call, &mut kept).unwrap_or(0);
     CallBytes { bytes: kept, count }
 }
@@ -32,7 +33,7 @@ fn read_letters(letters: &[u8]) -> Asked
     match text::read_bytes(letters) {
         Ok(raw) => {
             let bytes = raw.bytes;
-            let count = raw.count.min(MOST);
+            let count = raw.count.min(MOST_KEPT);
             Asked::Call(CallBytes { bytes, count })
         }
         Err(i) => match text::read_call(letters) {

@@ -22,7 +22,8 @@ const SCRATCH_SIZE: usize = 7;
 
 const ANSWER_SIZE: usize = 8;
 
-// Whether header and lengths are those of an opening. Test by test: in a closure of `is_some_and` they are no plainer.
+// Whether header and lengths are those of an opening. Test by test: of one chain of `&&` over calls the proof didn't close.
+// The four slices are the ones that a caller lends, in the order of the C interface.
 fn is_ready(rules: &[u32], state: &[u32], scratch: &[u32], answer: &[u8]) -> bool
     ensures { result ≡ ready (lent rules.now state.now scratch.now answer.now) }
 {

@@ -1,6 +1,7 @@
 -- What memory's header says of it.
-use Rattle.std.proofs.Common.{◌≡◌, ℕ, ◌<◌, ◌≤◌, true, false, ◌&&◌, eqb, leb, List, length, get_or, Some, None, sym}
+use Rattle.std.proofs.Common.{◌≡◌, Bool, ℕ, ◌<◌, ◌≤◌, true, false, ◌&&◌, eqb, leb, List, length, get_or, Some, None, sym}
 use Rattle.std.proofs.lemmas.Bool.{and_from, and_left, and_right, and_parts, cond-true, cond-false, le-leb, lt-leb, leb-true, eq-eqb, ne_eqb}
+use Rattle.std.specs.Bool.{then_some}
 use Rattle.tables.specs.declared.plan.Plan.{Plan}
 use Rattle.tables.specs.Layout.{mark, state_words, plan_in, good_plan, plan_of}
 use Rattle.tables.proofs.Choosing.{chosen}
@@ -14,14 +15,13 @@ unfolding plan_of
 no_mark w h =
     sym (cond-false _ _ _ (and_left (leb 16 (length w) && eqb (get_or w 0 0) mark) (good_plan (plan_in w) (length w)) (and_right (leb 16 (length w)) _ (ne_eqb _ _ h))))
 
-pub no_plan : (w : List ℕ) → false ≡ good_plan (plan_in w) (length w) → None ≡ plan_of w
+-- with a mark, what the test of the plan says
+pub by_test : (w : List ℕ) (b : Bool) → 16 ≤ length w → get_or w 0 0 ≡ mark → b ≡ good_plan (plan_in w) (length w) → then_some b (plan_in w) ≡ plan_of w
 unfolding plan_of
-no_plan w h = sym (cond-false _ _ _ (and_right (leb 16 (length w) && eqb (get_or w 0 0) mark) (good_plan (plan_in w) (length w)) (sym h)))
-
-pub a_plan : (w : List ℕ) → 16 ≤ length w → get_or w 0 0 ≡ mark → true ≡ good_plan (plan_in w) (length w) → Some (plan_in w) ≡ plan_of w
-unfolding plan_of
-a_plan w l m h =
-    sym (cond-true _ _ _ (and_from (leb 16 (length w) && eqb (get_or w 0 0) mark) (good_plan (plan_in w) (length w)) (and_from _ _ (le-leb _ _ l) (eq-eqb _ _ m)) (sym h)))
+by_test w true l m e =
+    sym (cond-true _ _ _ (and_from (leb 16 (length w) && eqb (get_or w 0 0) mark) (good_plan (plan_in w) (length w)) (and_from _ _ (le-leb _ _ l) (eq-eqb _ _ m)) (sym e)))
+by_test w false l m e =
+    sym (cond-false _ _ _ (and_right (leb 16 (length w) && eqb (get_or w 0 0) mark) (good_plan (plan_in w) (length w)) (sym e)))
 
 -- the sizes of a plan, and memory that is long enough for it
 pub record Roomy (p : Plan) (size : ℕ) : Type 0 where

@@ -12,7 +12,7 @@ use Rattle.tables.specs.Layout.{state_words, plan_in, good_plan, plan_of}
 use Rattle.tables.specs.Means.{Headed, Means}
 use Rattle.tables.specs.Acting.{told, RightOutcome}
 use Rattle.tables.proofs.Bounded.{few}
-use Rattle.tables.proofs.Planned.{a_plan}
+use Rattle.tables.proofs.Planned.{by_test}
 
 -- the sizes of a good game
 pub record Sized (g : Game) : Type 0 where
@@ -65,7 +65,7 @@ plan_is rules w l s m =
     let is : plan_in w ≡ the_plan l s = simp (h.tables, h.moves, h.cells, h.players, h.seated, h.played) in
     let good : good_plan (the_plan l s) (length w) ≡ true =
     good_by (the_plan l s) (length w) f.tables f.moves z.cells z.players m.few_tables m.few_moves m.room in
-    sym (a_plan w (omega (arith, m.room)) h.marked (sym (ap (λ p. good_plan p (length w)) is ∙ good))) ∙ ap (λ p. Some p) is
+    sym (by_test w true (omega (arith, m.room)) h.marked (sym (ap (λ p. good_plan p (length w)) is ∙ good))) ∙ ap (λ p. Some p) is
 
 -- a call that is refused leaves all as it was
 pub kept_right :

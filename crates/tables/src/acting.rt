@@ -6,13 +6,14 @@ ghost use Rattle.tables.specs.Changes.{sat_in};
 ghost use Rattle.tables.specs.Inner.{seat_with, played_from};
 ghost use Rattle.tables.specs.Acting.{sat, played as played-on, seat_of, SittingIsRight, PlayingIsRight, SeatsAreRight};
 
-use crate::plan::{HEADER, Plan, RECORD, read_plan};
+use crate::plan::{HEADER, PLAYED, Plan, RECORD, SEATED, read_plan};
 use crate::records::{COUNT, END, LINK, advance, put_entry, put_record};
 use eval::word_at;
 use play::{is_legal, turn};
 use rules::{Move, Reason, Refusal};
 use wire::put;
 
+// Places and not slices, since what a theorem says of a table it says of any state, one that is about to be written too.
 // Where a table's record stands, with the sizes of its game, and what is kept there of its end and of how many moves were played.
 #[derive(Clone, Copy)]
 pub struct Seat {
@@ -46,11 +47,6 @@ struct Record {
 
 // How many words an entry has.
 const ENTRY: usize = 4;
-
-// Where the header counts the tables, and where the moves.
-const SEATED: usize = 9;
-
-const PLAYED: usize = 10;
 
 impl Server {
     // The server whose state this is, or None where memory is not a server's.

@@ -1,6 +1,5 @@
 // The header of a server's state.
-ghost use Rattle.std.specs.Prelude.{◌≡◌};
-ghost use Rattle.rules.specs.Bounds.{good_limits};
+ghost use Rattle.std.specs.Prelude.{◌≡◌, is_some};
 ghost use Rattle.tables.specs.Layout.{good_size, good_plan, plan_of};
 ghost use Rattle.tables.specs.Acting.{sizes_for, opening, OpeningIsRight, GoodGamesHaveGoodSizes};
 
@@ -36,6 +35,11 @@ pub(crate) const HEADER: usize = 16;
 
 pub(crate) const RECORD: usize = 9;
 
+// Where the header counts the tables, and where the moves.
+pub(crate) const SEATED: usize = 9;
+
+pub(crate) const PLAYED: usize = 10;
+
 // Whether a plan can be that of an opening, and memory of `size` words is long enough for it.
 fn is_good(p: Plan, size: usize) -> bool
     ensures { result ≡ good_plan p size }
@@ -64,21 +68,10 @@ pub fn read_plan(state: &[u32]) -> Option<Plan>
         moves: state[2] as usize,
         cells: state[4] as usize,
         players: state[5] as usize,
-        seated: state[9] as usize,
-        played: state[10] as usize,
+        seated: state[SEATED] as usize,
+        played: state[PLAYED] as usize,
     };
-    if is_good(p, state.len()) {
-        Some(p)
-    } else {
-        None
-    }
-}
-
-// Whether limits are those that a server may have.
-fn few(limits: Limits) -> bool
-    ensures { result ≡ good_limits limits }
-{
-    limits.tables <= 1024 && limits.moves <= 1_000_000 && limits.positions <= 8192
+    is_good(p, state.len()).then_some(p)
 }
 
 // Whether a good game can have this size.
@@ -95,7 +88,7 @@ fn small(size: GameSize) -> bool
 pub fn sizes_for(limits: Limits, size: GameSize) -> Option<Sizes>
     ensures { result ≡ sizes_for limits size }
 {
-    if !few(limits) {
+    if !limits.are_good() {
         return None;
     }
     if !small(size) {
@@ -110,16 +103,14 @@ pub fn sizes_for(limits: Limits, size: GameSize) -> Option<Sizes>
     })
 }
 
-// Writes the header of a server that has just been opened, and says whether it could, with no value beside that which an Option would hold: limits and size are good, and memory is long enough.
-pub fn open_tables(limits: Limits, size: GameSize, state: &mut [u32]) -> bool
+// Writes the header of a server that has just been opened, if it can: limits and size are good, and memory is long enough.
+pub fn open_tables(limits: Limits, size: GameSize, state: &mut [u32]) -> Option<()>
     ensures after { state.new ≡ (opening limits size state.old).0 }
-    ensures could { result ≡ (opening limits size state.old).1 }
+    ensures could { is_some result ≡ (opening limits size state.old).1 }
 {
-    let Some(sizes) = sizes_for(limits, size) else {
-        return false;
-    };
+    let sizes = sizes_for(limits, size)?;
     if state.len() < sizes.state {
-        return false;
+        return None;
     }
     let header = [
         MARK,
@@ -140,7 +131,7 @@ pub fn open_tables(limits: Limits, size: GameSize, state: &mut [u32]) -> bool
         0,
     ];
     state[0..HEADER].copy_from_slice(&header);
-    true
+    Some(())
 }
 
 // A state that was just opened means a server with no tables.

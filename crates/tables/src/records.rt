@@ -19,13 +19,13 @@ const FIRST: usize = 7;
 
 pub(crate) const LINK: usize = 8;
 
-// The cells of a new table. By index: through iter_mut a proof knows only lengths.
+// The cells of a new table. Here and below a record's row and the count of its cells go along: beside the `&mut` of a struct no ghost field could say that it is long enough.
 fn put_start(rules: &[u32], cells: &mut [u32])
     requires { length cells.old ≤ 256 }
     ensures { cells.new ≡ start_cells (game_at rules.now) (length cells.old) }
 {
-    for i in 0..cells.len() {
-        cells[i] = start_cell(rules, i as u32);
+    for (i, cell) in cells.iter_mut().enumerate() {
+        *cell = start_cell(rules, i as u32);
     }
 }
 

@@ -33,7 +33,7 @@ mod endings;
 mod raw;
 
 pub use endings::letters;
-pub use raw::{Raw, read_bytes};
+pub use raw::{MOST_KEPT, Raw, read_bytes};
 
 fn is_blank(b: u8) -> bool
     ensures { result ≡ blank b }

@@ -6,13 +6,13 @@ ghost use Rattle.text.specs.RawReader.{step_of, Small, SmallStep, pairs_from, ra
 use super::{Cursor, is_blank};
 
 // How many bytes are kept. No call has more than 21, so these are enough to tell a call from what is longer.
-const MOST: usize = 22;
+pub const MOST_KEPT: usize = 22;
 
 // The bytes that a line says: the first of them, and how many there are in all.
 // No ArrayVec, since `count` is no length of `bytes`: it counts also those for which there is no room.
 #[derive(Clone, Copy)]
 pub struct Raw {
-    pub bytes: [u8; MOST],
+    pub bytes: [u8; MOST_KEPT],
     pub count: usize,
 }
 
@@ -99,7 +99,7 @@ pub fn read_bytes(line: &[u8]) -> Result<Raw, usize>
 {
     let mut cursor = Cursor { line, at: 0 };
     cursor.first_word(b"bytes")?;
-    let mut bytes = [0; MOST];
+    let mut bytes = [0; MOST_KEPT];
     let count = fill(cursor, &mut bytes)?;
     Ok(Raw { bytes, count })
 }

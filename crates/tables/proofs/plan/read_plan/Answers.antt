@@ -1,4 +1,5 @@
-use Rattle.tables.proofs.Planned.{no_header, no_mark, no_plan, a_plan}
+use Rattle.std.proofs.Common.{◌∙◌}
+use Rattle.tables.proofs.Planned.{no_header, no_mark, by_test}
 use Rattle.tables.proofs.plan.read_plan.Goals as goal
 
 pub returns-then-state-lt-HEADER : goal.returns-then-state-lt-HEADER
@@ -7,8 +8,7 @@ returns-then-state-lt-HEADER c = no_header c.args.state.now c.if-state-lt-HEADER
 pub returns-then-state-ne-MARK : goal.returns-then-state-ne-MARK
 returns-then-state-ne-MARK c = no_mark c.args.state.now c.if-state-ne-MARK.true
 
-pub returns-then-is_good : goal.returns-then-is_good
-returns-then-is_good c = a_plan c.args.state.now c.if-state-lt-HEADER.false c.if-state-ne-MARK.false c.if-is_good.ensures
-
-pub returns-else-is_good : goal.returns-else-is_good
-returns-else-is_good c = no_plan c.args.state.now c.if-is_good.ensures
+pub returns : goal.returns
+returns c =
+    c.then_some.ensures
+    ∙ by_test c.args.state.now c.is_good.result c.if-state-lt-HEADER.false c.if-state-ne-MARK.false c.is_good.ensures
