@@ -130,14 +130,15 @@ fn load_rules<'a>(
     Some(end)
 }
 
-// Writes the cells at the start, of two bytes each, from the sixth word on. By their places: through iter_mut a proof knows only lengths.
+// Writes the cells at the start, of two bytes each, from the sixth word on.
 fn load_cells(bytes: &[u8], count: usize, rules: &mut [u32])
     requires read { 3 + 2 * count ≤ length bytes.now }
     requires room { 5 + count ≤ length rules.old }
     ensures { (k : ℕ) → k < count → slice_index rules.new (5 + k) ≡ word_at bytes.now (3 + 2 * k) }
 {
-    for k in 0..count {
-        rules[HEADER + k] = u32::from(two_bytes(bytes, 3 + 2 * k));
+    let cells = &mut rules[HEADER..HEADER + count];
+    for (k, cell) in cells.iter_mut().enumerate() {
+        *cell = u32::from(two_bytes(bytes, 3 + 2 * k));
     }
 }
 
