@@ -1,7 +1,7 @@
 -- Loading an expression: its parts one after the other, and then its row.
 use Rattle.std.proofs.Common.{◌≡◌, ℕ, zero, suc, ◌+◌, ◌-◌, ◌*◌, ◌<◌, ◌≤◌, Bool, true, List, [], ◌∷◌, ◌++◌, length, get_or, drop, set, Ok, Err, Result, sym, refl, ap, ◌∙◌, subst, ⊎_elim, arith}
 use Rattle.std.proofs.lemmas.Bool.{cases_eq, cond-true, cond-false, lt-ltb, le-ltb}
-use Rattle.std.proofs.lemmas.List.{take_all, drop_all, drop_more, drop-drop, length-drop, length-set, get_or_push, get_or_append_left, get_or-set_same, get_or-set_other}
+use Rattle.std.proofs.lemmas.List.{take_all, drop_all, drop_more, drop-drop, length-drop, get_or_push, get_or_append_left, get_or-set_same, get_or-set_other}
 use Rattle.rules.specs.Rules.{Expr, Num}
 use Rattle.rules.specs.Bounds.{fits_depth, expr_parts}
 use Rattle.wire.specs.Numbers.{bytes_value}
@@ -62,19 +62,17 @@ finish fits means bs at xs ys zs i k os used e (Err x) rd w ft en le lo hi is m 
 pub record Parts (bs xs : List ℕ) (l at n used next : ℕ) (places ys : List ℕ) (es : List Expr) : Type 0 where
   pub read : read_exprs n (drop 1 bs) ≡ got es (drop used bs)
   pub within : used ≤ length bs
-  pub three : length places ≡ 3
   pub fit : within_levels l es ≡ true
   pub ends : next ≡ at + 4 * exprs_parts es
   pub before : (k : ℕ) → k < at → get_or ys k 0 ≡ get_or xs k 0
   pub after : (k : ℕ) → next ≤ k → get_or ys k 0 ≡ get_or xs k 0
   pub stays : (zs : List ℕ) → SameBetween at next zs ys → (j : ℕ) → j < n → expr_within l zs (get_or places j 0) ≡ get_or es j (Num 0)
 
-pub no_parts : (bs xs : List ℕ) (l at : ℕ) (places : List ℕ) → length places ≡ 3 → 0 < length bs → Parts bs xs l at 0 1 at places xs []
+pub no_parts : (bs xs : List ℕ) (l at : ℕ) (places : List ℕ) → 0 < length bs → Parts bs xs l at 0 1 at places xs []
 unfolding read_exprs within_levels exprs_parts
-no_parts bs xs l at places three some = record {
+no_parts bs xs l at places some = record {
   read = refl;
   within = omega arith;
-  three = three;
   fit = refl;
   ends = omega arith;
   before = λ k h. refl;
@@ -84,7 +82,7 @@ no_parts bs xs l at places three some = record {
 
 -- a part was loaded from the bytes that are left, and its place noted
 pub next_part :
-    (bs xs : List ℕ) (l at n used next : ℕ) (places ys : List ℕ) (es : List Expr) → Parts bs xs l at n used next places ys es → n < 3
+    (bs xs : List ℕ) (l at n used next : ℕ) (places ys : List ℕ) (es : List Expr) → Parts bs xs l at n used next places ys es → n < length places
     → (qs zs : List ℕ) (more root : ℕ) (e : Expr) → qs ≡ drop used bs → ((k : ℕ) → k < next → get_or zs k 0 ≡ get_or ys k 0)
     → Stands (fits_levels l) (expr_within l) qs next ys zs more root e
     → Parts bs xs l at (n + 1) (used + more) (root + 4) (set places n root) zs (es ++ e ∷ [])
@@ -97,14 +95,13 @@ next_part bs xs l at n used next places ys es ps room qs zs more root e left lo 
     record {
       read = reads_in_turns n 1 (drop 1 bs) ∙ ap (λ p. glue p 1) ps.read ∙ ap (λ p. and_then p (λ fs q. got (es ++ fs) q)) one;
       within = omega (arith, s.within, ps.within);
-      three = length-set places n root ∙ ps.three;
       fit = levels_push l es e ps.fit s.fit;
       ends = omega (arith, s.ends, ps.ends);
       before = λ k h. lo k (omega (arith, ps.ends)) ∙ ps.before k h;
       after = λ k h. s.after k h ∙ ps.after k (omega (arith, s.ends));
       stays = λ ws same j h. ⊎_elim
           (λ (is : j ≡ n).
-          ap (expr_within l ws) (ap (λ i. get_or (set places n root) i 0) is ∙ get_or-set_same places n root 0 (omega (arith, ps.three)))
+          ap (expr_within l ws) (ap (λ i. get_or (set places n root) i 0) is ∙ get_or-set_same places n root 0 room)
           ∙ s.stays ws (λ k p q. same k (omega (arith, ps.ends)) q) ∙ sym (get_or_push es e (Num 0) j (many ∙ sym is)))
           (λ (not : j ≡ n → ⊥).
           ap (expr_within l ws) (get_or-set_other places n j root 0 not)
@@ -138,20 +135,21 @@ module _ (bs : List ℕ) (k : ℕ) (some : 0 < length bs) (is : get_or bs 0 0 �
       (x.0, x.2 ∙ ap (got x.0) same.1, one, many)
 
   module _ (xs : List ℕ) (l at n used next : ℕ) (places ys : List ℕ) (es : List Expr) (ps : Parts bs xs l at n used next places ys es) where
-    -- all parts were read, and the row is written
-    pub all_parts : (zs : List ℕ) (r : Result Loaded LoadError) → n ≡ (kind_after k).arity
-        → Ended next (get_or bs 0 0) places used ys zs r → LoadsWithin (suc l) bs at xs zs r
+    -- all parts were read, and the row is written with their places
+    pub all_parts : (os zs : List ℕ) (r : Result Loaded LoadError) → n ≡ (kind_after k).arity → ((j : ℕ) → j < n → get_or os j 0 ≡ get_or places j 0)
+        → Ended next (get_or bs 0 0) os used ys zs r → LoadsWithin (suc l) bs at xs zs r
     unfolding expr_within
-    all_parts zs r all m =
+    all_parts os zs r all named m =
         let rd : read_exprs (kind_after k).arity (drop 1 bs) ≡ got es (drop used bs) = ap (λ i. read_exprs i (drop 1 bs)) (sym all) ∙ ps.read in
         let many = (sized (kind_after k).arity (drop 1 bs) es (drop used bs) rd).0 in
         let law = lawful k known es many in
-        finish (fits_levels (suc l)) (expr_within (suc l)) bs at xs ys zs next (suc k) places used ((kind_after k).make es) r
+        finish (fits_levels (suc l)) (expr_within (suc l)) bs at xs ys zs next (suc k) os used ((kind_after k).make es) r
         (whole ∙ ap (joined (kind_after k)) rd ∙ ap (λ fs. got fs (drop used bs)) (join_all es many))
         ps.within (law.levels l ∙ ps.fit) (omega (arith, ps.ends, law.parts)) (omega (arith, ps.ends)) ps.before ps.after
         (λ w ws same row. ap (λ o. expr_of o (expr_within l ws)) row
-        ∙ row_means k known places (expr_within l ws) es (λ j h. ps.stays ws (λ i p q. same i p (omega arith) ∙ w.below i q) j (omega arith)))
-        (subst (λ b. Ended next b places used ys zs r) is m)
+        ∙ row_means k known os (expr_within l ws) es
+        (λ j h. ap (expr_within l ws) (named j (omega arith)) ∙ ps.stays ws (λ i p q. same i p (omega arith) ∙ w.below i q) j (omega arith)))
+        (subst (λ b. Ended next b os used ys zs r) is m)
 
     module _ (more : n < (kind_after k).arity) where
       -- the next part, and those after it

@@ -239,10 +239,9 @@ fn load_within(bytes: &[u8], levels: u32, rules: &mut [u32], at: u32) -> Result<
     let mut places = [0; 3];
     let mut used = 1;
     let mut next = at;
-    // By index: after `take` a proof knows nothing of what was written through iter_mut.
-    for j in 0..kind.arity() {
+    for place in places[..kind.arity()].iter_mut() {
         let part = load_within(&bytes[used..], levels - 1, rules, next)?;
-        places[j] = part.root;
+        *place = part.root;
         used += part.used;
         next = part.root + 4;
     }

@@ -7,6 +7,6 @@ abbrev pub decreases-load_within : goal.decreases-load_within
 decreases-load_within l = l.levels
 
 -- the parts that were loaded
-abbrev pub invariant-loop-j : goal.invariant-loop-j
-invariant-loop-j l =
-    (es : List Expr) × Parts l.bytes l.initial.rules (l.levels - 1) l.at l.j l.used l.next l.places l.rules es
+abbrev pub invariant-loop-place : goal.invariant-loop-place
+invariant-loop-place l =
+    (es : List Expr) × Parts l.bytes l.initial.rules (l.levels - 1) l.at l.place-index l.used l.next l.place-items l.rules es
