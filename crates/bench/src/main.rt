@@ -14,7 +14,7 @@ const WON: [u32; 10] = [1, 1, 1, 1, 2, 2, 0, 0, 0, 0];
 
 const DRAWN: [u32; 10] = [1, 1, 2, 1, 1, 2, 2, 2, 1, 1];
 
-// What goes through the boards is as in `server_bench`, which prints other lines: in a crate for both, four functions would be public that nothing else calls.
+// As in `server_bench`, which prints other lines: public in a crate for both, these would want contracts that say what each board is, for functions that only measure.
 // The board after this one: cells 1 to 9 count up in threes.
 fn next_board(cells: &mut [u32]) {
     for x in cells.iter_mut().skip(1) {
@@ -39,10 +39,10 @@ fn rows_of_three(rules: &[u32], over: u32, cells: &mut [u32]) -> u32 {
 }
 
 fn times(rt: &HostRuntime) -> anyhow::Result<u32> {
-    for word in env::args(rt)?.skip(1) {
-        return Ok(word.as_str().parse::<u32>()?);
+    match env::args(rt)?.nth(1) {
+        Some(word) => Ok(word.as_str().parse::<u32>()?),
+        None => Ok(0),
     }
-    Ok(0)
 }
 
 fn show_gains(rt: &HostRuntime, rules: &[u32], gain: u32, cells: &[u32]) -> anyhow::Result<()> {

@@ -9,7 +9,7 @@ const GAME: &[u8] = b"\x02\x02\x00\x00\x00\x00\x00\x01\
     \x01\x00\x01\x00\x00\x01\x00\x01\x00\x00\x00\x06\x00\x01\x00\x01\x00\x00\x00\
     \x00\x00\x00\x00\x00\x00";
 
-// Kinds of calls, and of the answers to those that are not refused: as bytes, so that what is measured is the server's work alone.
+// Kinds of calls, and of the answers to those that are not refused. By bytes: what is measured is the server alone, and calls that `write_call` makes beforehand would need memory for all of them.
 const PLAY: u8 = 1;
 
 const SEE: u8 = 3;
@@ -87,7 +87,7 @@ fn play_call(table: u32, player: u8) -> [u8; 21] {
 pub(crate) fn play_all(server: &mut Server, tables: u32, from: u32, to: u32) -> u32 {
     let mut answered = 0u32;
     for i in from..to {
-        let turns = if tables == 0 { 0 } else { i / tables };
+        let turns = i.checked_div(tables).unwrap_or(0);
         let table = i.saturating_sub(turns.saturating_mul(tables));
         if is_answered(server, &play_call(table, (turns % 2) as u8), NUMBER) {
             answered = answered.saturating_add(1);
@@ -100,7 +100,7 @@ pub(crate) fn play_all(server: &mut Server, tables: u32, from: u32, to: u32) -> 
 pub(crate) fn see_all(server: &mut Server, tables: u32, looks: u32) -> u32 {
     let mut answered = 0u32;
     for i in 0..looks {
-        let table = if tables == 0 { 0 } else { i % tables };
+        let table = i.checked_rem(tables).unwrap_or(0);
         let t = table.to_le_bytes();
         if is_answered(server, &[SEE, t[0], t[1], t[2], t[3]], SHOWN) {
             answered = answered.saturating_add(1);

@@ -70,7 +70,7 @@ fn best_of(rt: &HostRuntime, tables: u32, times: u32) -> anyhow::Result<()> {
 }
 
 fn main(rt: HostRuntime) -> anyhow::Result<()> {
-    for word in env::args(&rt)?.skip(1) {
+    if let Some(word) = env::args(&rt)?.nth(1) {
         let times = word.as_str().parse::<u32>()?;
         best_of(&rt, 1, times)?;
         return best_of(&rt, 1024, times);

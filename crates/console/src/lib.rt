@@ -7,6 +7,7 @@ ghost use Rattle.console.specs.Ends.{refused_words};
 
 use anyhow::anyhow;
 use commands::{Fault, Reply, Request, first_too_many, read_request, reply_to, word_at};
+use rules::{Reason, Refusal};
 use std::fs::File;
 use std::io::{BufRead, BufReader, BufWriter, Write};
 use std::{fmt, fs, io};
@@ -50,6 +51,7 @@ fn show(out: &mut BufWriter<io::Stdout>, reply: Reply) -> io::Result<()> {
     }
 }
 
+// Also in `server_console`, but for what a line does: shared, it would be a public function that promises nothing, since no contract speaks of streams.
 // Memory does not grow with the number of lines. What is answered is written before more input is waited for.
 fn answer_lines<R: io::Read + Drop>(rt: &HostRuntime, input: R) -> io::Result<()> {
     let mut reader = BufReader::new(rt.alloc(), input)?;
@@ -69,47 +71,57 @@ fn answer_lines<R: io::Read + Drop>(rt: &HostRuntime, input: R) -> io::Result<()
 }
 
 // One sentence on standard error, and an error for `main` to end with.
-fn fail<D: fmt::Display + Drop>(rt: &HostRuntime, sentence: D) -> anyhow::Result<()>
-    ensures { is_err result ≡ true }
-{
-    eprintln!(rt; "answer: {sentence}")?;
-    Err(anyhow!("{sentence}"))
+fn fail<D: fmt::Display + Drop>(rt: &HostRuntime, sentence: D) -> anyhow::Error {
+    match eprintln!(rt; "answer: {sentence}") {
+        Ok(()) => anyhow!("{sentence}"),
+        Err(e) => e.into(),
+    }
+}
+
+// A refusal at opening, and a sentence.
+fn refuse<D: fmt::Display + Drop>(
+    rt: &HostRuntime,
+    refusal: Refusal,
+    sentence: D,
+) -> anyhow::Error {
+    match println!(rt; "{refusal}") {
+        Ok(()) => fail(rt, sentence),
+        Err(e) => e.into(),
+    }
 }
 
 // The game file must be there. It is not understood yet.
 fn open_game(rt: &HostRuntime, game: &str) -> anyhow::Result<()> {
-    match fs::read(rt, game) {
-        Ok(_) => Ok(()),
-        Err(e) => fail(
+    fs::read(rt, game).map_err(|e| {
+        fail(
             rt,
             format_args!("the game file '{game}' can't be read: {e}"),
-        ),
-    }
+        )
+    })?;
+    Ok(())
 }
 
 fn answer_file(rt: &HostRuntime, calls: &str) -> anyhow::Result<()> {
-    match File::open(rt, calls) {
-        Ok(file) => answer_input(rt, file),
-        Err(e) => fail(
+    let file = File::open(rt, calls).map_err(|e| {
+        fail(
             rt,
             format_args!("the calls file '{calls}' can't be read: {e}"),
-        ),
-    }
+        )
+    })?;
+    answer_input(rt, file)
 }
 
 fn answer_input<R: io::Read + Drop>(rt: &HostRuntime, input: R) -> anyhow::Result<()> {
-    match answer_lines(rt, input) {
-        Ok(()) => Ok(()),
-        Err(e) => fail(
+    answer_lines(rt, input).map_err(|e| {
+        fail(
             rt,
             format_args!("calls can't be read, or answers written: {e}"),
-        ),
-    }
+        )
+    })
 }
 
-fn complain(rt: &HostRuntime, words: &[String], fault: Fault) -> anyhow::Result<()>
-    ensures { is_err result ≡ true }
-{
+// What is wrong with the words of the command line.
+fn complain(rt: &HostRuntime, words: &[String], fault: Fault) -> anyhow::Error {
     match fault {
         Fault::UnknownOption(i) => {
             let word = word_at(words, i);
@@ -141,7 +153,7 @@ pub fn answer(rt: &HostRuntime, words: &[String]) -> anyhow::Result<()>
     ensures { refused_words (request_of (map string_bytes words.now)) ≡ true → is_err result ≡ true }
 {
     match read_request(words) {
-        Err(fault) => complain(rt, words, fault),
+        Err(fault) => Err(complain(rt, words, fault)),
         Ok(Request::Help) => {
             rt.println(HELP)?;
             Ok(())
@@ -154,8 +166,7 @@ pub fn answer(rt: &HostRuntime, words: &[String]) -> anyhow::Result<()>
             },
         ) => {
             if let Some(excess) = first_too_many(limits) {
-                println!(rt; "refused 3 at 1")?;
-                return fail(rt, excess);
+                return Err(refuse(rt, Reason::NotGood.into(), excess));
             }
             open_game(rt, word_at(words, game))?;
             match calls {

@@ -5,7 +5,10 @@ use rules::Move;
 const BOARDS: usize = 19683;
 
 // How many cells a position has.
-const CELLS: usize = 10;
+pub(crate) const CELLS: usize = 10;
+
+// Room for an answer, as a server for the game has it: 12 bytes for each of 10 moves, and 4096 more.
+pub(crate) const ANSWER_BYTES: usize = 4216;
 
 const LIST_HEAD: usize = 5;
 

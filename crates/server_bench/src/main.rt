@@ -6,18 +6,18 @@ mod listings;
 
 use anyhow::anyhow;
 use eval::eval;
-use listings::{list_all, reachable};
+use listings::{ANSWER_BYTES, CELLS, list_all, reachable};
 use std::time::Instant;
 use std::{env, fs};
 
 const BOARDS: u32 = 19683;
 
 // A won board, and one that is full with no row of three.
-const WON: [u32; 10] = [1, 1, 1, 1, 2, 2, 0, 0, 0, 0];
+const WON: [u32; CELLS] = [1, 1, 1, 1, 2, 2, 0, 0, 0, 0];
 
-const DRAWN: [u32; 10] = [1, 1, 2, 1, 1, 2, 2, 2, 1, 1];
+const DRAWN: [u32; CELLS] = [1, 1, 2, 1, 1, 2, 2, 2, 1, 1];
 
-// What goes through the boards is as in `bench`, which prints other lines: in a crate for both, four functions would be public that nothing else calls.
+// As in `bench`, which prints other lines: public in a crate for both, these would want contracts that say what each board is, for functions that only measure.
 // The board after this one: cells 1 to 9 count up in threes.
 fn next_board(cells: &mut [u32]) {
     for x in cells.iter_mut().skip(1) {
@@ -42,10 +42,10 @@ fn rows_of_three(rules: &[u32], over: u32, cells: &mut [u32]) -> u32 {
 }
 
 fn times(rt: &HostRuntime) -> anyhow::Result<u32> {
-    for word in env::args(rt)?.skip(1) {
-        return Ok(word.as_str().parse::<u32>()?);
+    match env::args(rt)?.nth(1) {
+        Some(word) => Ok(word.as_str().parse::<u32>()?),
+        None => Ok(0),
     }
-    Ok(0)
 }
 
 fn show_gains(rt: &HostRuntime, rules: &[u32], gain: u32, cells: &[u32]) -> anyhow::Result<()> {
@@ -76,14 +76,14 @@ fn main(rt: HostRuntime) -> anyhow::Result<()> {
         return Err(anyhow!("noughts.bytes is no good game"));
     }
     let game = rows::read_game(&rules);
-    let mut cells: Vec<u32> = vec![in rt.alloc(); 0; 10]?;
-    let mut answer: Vec<u8> = vec![in rt.alloc(); 0; 4216]?;
+    let mut cells: Vec<u32> = vec![in rt.alloc(); 0; CELLS]?;
+    let mut answer: Vec<u8> = vec![in rt.alloc(); 0; ANSWER_BYTES]?;
     let count = rows_of_three(&rules, game.terminal, &mut cells);
     println!(rt; "{count} of {BOARDS} boards have a row of three")?;
     show_gains(&rt, &rules, game.payoff, &WON)?;
     show_gains(&rt, &rules, game.payoff, &DRAWN)?;
     let positions = reachable(&rt, &rules)?;
-    let reached = positions.len() / 10;
+    let reached = positions.len() / CELLS;
     let listed = list_all(&rules, &positions, &mut answer);
     println!(rt; "{listed} moves are listed in {reached} positions")?;
     let turns = times(&rt)?;

@@ -6,6 +6,7 @@ ghost use Rattle.server_console.specs.Files.{in_bytes, small_enough, Served};
 use anyhow::anyhow;
 use game_text::{Fault, line_and_column, read_game};
 use printing::print_game;
+use rules::{Reason, Refusal};
 use std::io::{BufWriter, Write};
 use std::{fmt, fs};
 use wire::{Excess, GameSize, check_game, first_excess};
@@ -36,23 +37,22 @@ pub(crate) fn fail<D: fmt::Display + Drop>(rt: &HostRuntime, sentence: D) -> any
 // A refusal at opening, and a sentence.
 pub(crate) fn refuse<D: fmt::Display + Drop>(
     rt: &HostRuntime,
-    place: u32,
+    refusal: Refusal,
     sentence: D,
 ) -> anyhow::Error {
-    match println!(rt; "refused 3 at {place}") {
+    match println!(rt; "{refusal}") {
         Ok(()) => fail(rt, sentence),
         Err(e) => e.into(),
     }
 }
 
 fn read_file(rt: &HostRuntime, path: &str) -> anyhow::Result<Vec<u8>> {
-    match fs::read(rt, path) {
-        Ok(file) => Ok(file),
-        Err(e) => Err(fail(
+    fs::read(rt, path).map_err(|e| {
+        fail(
             rt,
             format_args!("the game file '{path}' can't be read: {e}"),
-        )),
-    }
+        )
+    })
 }
 
 // Where a text can't be read on, by line and column from 1.
@@ -61,7 +61,7 @@ fn unreadable(rt: &HostRuntime, path: &str, text: &[u8], fault: Fault) -> anyhow
     let wanted = fault.expected;
     refuse(
         rt,
-        0,
+        Reason::NoGame.into(),
         format_args!("{path}, line {line}, column {column}: {wanted} is expected here"),
     )
 }
@@ -69,9 +69,9 @@ fn unreadable(rt: &HostRuntime, path: &str, text: &[u8], fault: Fault) -> anyhow
 // The bytes of a file, if they have the form of a game.
 fn in_form(rt: &HostRuntime, path: &str, file: Vec<u8>) -> anyhow::Result<Vec<u8>> {
     match check_game(file.as_slice()) {
-        Err(refusal) if refusal.place == 0 => Err(refuse(
+        Err(refusal) if refusal == Reason::NoGame.into() => Err(refuse(
             rt,
-            0,
+            refusal,
             format_args!("{path}: this is no game in byte form"),
         )),
         _ => Ok(file),
@@ -85,13 +85,14 @@ fn load(rt: &HostRuntime, path: &str) -> anyhow::Result<Vec<u8>> {
         return in_form(rt, path, file);
     }
     let mut game: Vec<u8> = vec![in rt.alloc(); 0; file.as_slice().len().saturating_mul(2)]?;
-    match read_game(file.as_slice(), game.as_mut_slice()) {
-        Ok(size) => {
-            game.truncate(size);
-            Ok(game)
-        }
-        Err(fault) => Err(unreadable(rt, path, file.as_slice(), fault)),
-    }
+    let size = read_game(file.as_slice(), game.as_mut_slice()).map_err(|fault| unreadable(
+        rt,
+        path,
+        file.as_slice(),
+        fault,
+    ))?;
+    game.truncate(size);
+    Ok(game)
 }
 
 // Whether a good game of this size is served.
@@ -107,7 +108,7 @@ fn too_large(rt: &HostRuntime, path: &str, size: GameSize) -> anyhow::Error {
     if cells > FEW_CELLS {
         return refuse(
             rt,
-            1,
+            Reason::NotGood.into(),
             format_args!(
                 "{path}: the game has {cells} cells, and at most {FEW_CELLS} are served without --large"
             ),
@@ -115,7 +116,7 @@ fn too_large(rt: &HostRuntime, path: &str, size: GameSize) -> anyhow::Error {
     }
     refuse(
         rt,
-        1,
+        Reason::NotGood.into(),
         format_args!(
             "{path}: the game has {moves} possible moves, and at most {FEW_MOVES} are served without --large"
         ),
@@ -130,10 +131,10 @@ pub(crate) fn open_game(rt: &HostRuntime, path: &str, large: bool) -> anyhow::Re
     match check_game(game.as_slice()) {
         Ok(size) if is_served(size, large) => Ok(game),
         Ok(size) => Err(too_large(rt, path, size)),
-        Err(_) => {
+        Err(refusal) => {
             // which limit, what there is of it, and the most that is served
             let excess = first_excess(game.as_slice()).unwrap_or(Excess::Deep);
-            Err(refuse(rt, 1, format_args!("{path}: {excess}")))
+            Err(refuse(rt, refusal, format_args!("{path}: {excess}")))
         }
     }
 }
@@ -156,11 +157,13 @@ pub(crate) fn write_game(rt: &HostRuntime, path: &str) -> anyhow::Result<()> {
 pub(crate) fn show_game(rt: &HostRuntime, path: &str) -> anyhow::Result<()> {
     let game = load(rt, path)?;
     let mut text: Vec<u8> = vec![in rt.alloc(); 0; game.as_slice().len().saturating_mul(10)]?;
-    match print_game(game.as_slice(), text.as_mut_slice()) {
-        Some(size) => {
-            text.truncate(size);
-            write_out(rt, text.as_slice())
-        }
-        None => Err(refuse(rt, 0, format_args!("{path}: this is no game in byte form"))),
-    }
+    let size = print_game(game.as_slice(), text.as_mut_slice()).ok_or_else(|| {
+        refuse(
+            rt,
+            Reason::NoGame.into(),
+            format_args!("{path}: this is no game in byte form"),
+        )
+    })?;
+    text.truncate(size);
+    write_out(rt, text.as_slice())
 }

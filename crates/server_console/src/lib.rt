@@ -10,7 +10,7 @@ mod games;
 use commands::{Fault, first_too_many, word_at};
 use games::{fail, open_game, refuse, show_game, write_game};
 use printing::print_answer;
-use rules::Limits;
+use rules::{Limits, Reason};
 use server_commands::{Asked, Request, read_line, read_request};
 use session::{call, needs, open};
 use std::fs::File;
@@ -62,10 +62,8 @@ struct Server {
 // A server for a game, in memory of just the sizes that it asks for. An answer's text has at most three letters for each byte, and 5 more.
 fn open_server(rt: &HostRuntime, limits: Limits, game: &[u8]) -> anyhow::Result<Server> {
     let heap = rt.alloc();
-    let sizes = match needs(limits, game) {
-        Ok(sizes) => sizes,
-        Err(refusal) => return Err(refuse(rt, refusal.place, "no server takes this game")),
-    };
+    let not_taken = |refusal| refuse(rt, refusal, "no server takes this game");
+    let sizes = needs(limits, game).map_err(not_taken)?;
     let mut server = Server {
         rules: vec![in heap; 0; sizes.rules]?,
         state: vec![in heap; 0; sizes.state]?,
@@ -73,17 +71,16 @@ fn open_server(rt: &HostRuntime, limits: Limits, game: &[u8]) -> anyhow::Result<
         answer: vec![in heap; 0; sizes.answer]?,
         line: vec![in heap; 0; sizes.answer.saturating_mul(3).saturating_add(5)]?,
     };
-    match open(
+    open(
         limits,
         game,
         server.rules.as_mut_slice(),
         server.state.as_mut_slice(),
         server.scratch.as_slice(),
         server.answer.as_slice(),
-    ) {
-        Ok(_) => Ok(server),
-        Err(refusal) => Err(refuse(rt, refusal.place, "no server takes this game")),
-    }
+    )
+    .map_err(not_taken)?;
+    Ok(server)
 }
 
 // The answer to a call in bytes, as a line.
@@ -117,6 +114,7 @@ fn answer_line(
     }
 }
 
+// Also in `console`, but for what a line does: shared, it would be a public function that promises nothing, since no contract speaks of streams.
 // Memory does not grow with the number of lines. What is answered is written before more input is waited for.
 fn answer_lines<R: io::Read + Drop>(
     rt: &HostRuntime,
@@ -140,13 +138,13 @@ fn answer_lines<R: io::Read + Drop>(
 }
 
 fn answer_file(rt: &HostRuntime, server: &mut Server, calls: &str) -> anyhow::Result<()> {
-    match File::open(rt, calls) {
-        Ok(file) => answer_input(rt, server, file),
-        Err(e) => Err(fail(
+    let file = File::open(rt, calls).map_err(|e| {
+        fail(
             rt,
             format_args!("the calls file '{calls}' can't be read: {e}"),
-        )),
-    }
+        )
+    })?;
+    answer_input(rt, server, file)
 }
 
 fn answer_input<R: io::Read + Drop>(
@@ -154,13 +152,12 @@ fn answer_input<R: io::Read + Drop>(
     server: &mut Server,
     input: R,
 ) -> anyhow::Result<()> {
-    match answer_lines(rt, server, input) {
-        Ok(()) => Ok(()),
-        Err(e) => Err(fail(
+    answer_lines(rt, server, input).map_err(|e| {
+        fail(
             rt,
             format_args!("calls can't be read, or answers written: {e}"),
-        )),
-    }
+        )
+    })
 }
 
 // What is wrong with the words of the command line.
@@ -227,7 +224,7 @@ pub fn answer(rt: &HostRuntime, words: &[String]) -> anyhow::Result<()>
             },
         ) => {
             if let Some(excess) = first_too_many(limits) {
-                return Err(refuse(rt, 1, excess));
+                return Err(refuse(rt, Reason::NotGood.into(), excess));
             }
             serve(rt, words, limits, large, game, calls)
         }

@@ -3,9 +3,8 @@
 
 #[cfg(test)]
 mod tests {
-    use commands::Fault;
     use rules::Limits;
-    use server_commands::{Asked, Request, read_line, read_request};
+    use server_commands::{Asked, Fault, Request, read_line, read_request};
     use std::alloc::{AllocError, Global};
     use std::test::Fail;
 
@@ -19,10 +18,7 @@ mod tests {
     }
 
     fn asks_nothing(line: &[u8]) -> bool {
-        match read_line(line) {
-            Asked::Nothing => true,
-            _ => false,
-        }
+        matches!(read_line(line), Asked::Nothing)
     }
 
     // How much of a line that is no call is right.
@@ -36,7 +32,7 @@ mod tests {
     // Whether a line asks the call of just these bytes.
     fn asks(line: &[u8], bytes: &[u8]) -> bool {
         match read_line(line) {
-            Asked::Call(kept) => &kept.bytes[0..kept.count] == bytes,
+            Asked::Call(kept) => kept.as_slice() == bytes,
             _ => false,
         }
     }

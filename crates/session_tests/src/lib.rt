@@ -4,7 +4,7 @@
 
 #[cfg(test)]
 mod tests {
-    use rules::Limits;
+    use rules::{Limits, Refusal};
     use session::{call, needs, open};
     use std::alloc::{AllocError, Global};
     use std::process::Abort;
@@ -36,8 +36,8 @@ mod tests {
 
     // A game from its first move to its end, with what is refused on the way: see 0, sit 0, see 0, may 0; two plays that are refused, and one that is not;
     // ticks, back and two searches, which this server can't do; the other moves, and what is there at the end.
-    const GAME: &[u8] =
-        b"3 0 = 0 4 0; 0 0 = 1 0; 3 0 = 2 2 0 5 0 0 2 0 0; 4 0 = 3 3 0 1 0 0 2 0 0 3 0;\
+    const GAME: &str =
+        "3 0 = 0 4 0; 0 0 = 1 0; 3 0 = 2 2 0 5 0 0 2 0 0; 4 0 = 3 3 0 1 0 0 2 0 0 3 0;\
         1 0 1 0 1 0 = 0 6 1; 1 0 0 0 0 0 = 0 7 2; 1 0 0 1 1 0 = 0 7 2; 1 0 0 0 1 0 = 1 1; 3 0 = 2 2 1 4 1 0 2 0 0;\
         2 5 = 0 2 0; 5 0 0 = 0 2 0; 6 0 0 1 64 = 0 2 0; 6 0 0 1 65 = 0 2 3;\
         1 0 1 0 3 0 = 1 2; 4 0 = 3 1 0 1 0; 1 0 0 0 2 0 = 0 7 2; 1 0 0 0 1 0 = 1 3;\
@@ -45,29 +45,29 @@ mod tests {
         1 1 0 0 1 0 = 0 4 0; 4 1 = 0 4 0; 3 4294967295 = 0 4 0;";
 
     // Two tables, the second with clocks: a move at one changes nothing at the other.
-    const APART: &[u8] = b"0 0 = 1 0; 0 7 = 1 1;\
+    const APART: &str = "0 0 = 1 0; 0 7 = 1 1;\
         1 0 0 0 1 0 = 1 1; 3 1 = 2 2 0 5 0 0 2 7 7;\
         1 1 0 0 2 0 = 1 1; 3 0 = 2 2 1 4 1 0 2 0 0;\
         1 0 1 0 3 0 = 1 2; 3 1 = 2 2 1 3 1 0 2 7 7; 3 0 = 2 2 0 1 0 0 2 0 0;";
 
     // The state after that: header, a record for each table, and entries, whose last word names the next of the same table, if there is one.
-    const KEPT: &[u8] = b"1465208388 2 4 3 2 2 148 620 4144 2 3 0 0 0 0 0 \
+    const KEPT: &str = "1465208388 2 4 3 2 2 148 620 4144 2 3 0 0 0 0 0 \
         0 1 0 0 0 0 0 0 2 0 49 \
         1 3 7 7 0 0 1 0 1 1 45 \
         0 1 0 2 0 2 0 9 0 3 0 9 9 9 9 9 ";
 
     // With no tables; with one table and no moves; with one table and one move.
-    const NO_TABLES: &[u8] = b"0 0 = 0 8 0;";
+    const NO_TABLES: &str = "0 0 = 0 8 0;";
 
-    const NO_MOVES: &[u8] = b"0 0 = 1 0; 0 0 = 0 8 0; 1 0 0 0 1 0 = 0 8 0; 1 0 0 0 4 0 = 0 7 2;";
+    const NO_MOVES: &str = "0 0 = 1 0; 0 0 = 0 8 0; 1 0 0 0 1 0 = 0 8 0; 1 0 0 0 4 0 = 0 7 2;";
 
-    const ONE_MOVE: &[u8] =
-        b"0 0 = 1 0; 1 0 0 0 1 0 = 1 1; 1 0 1 0 1 0 = 0 8 0; 3 0 = 2 2 1 4 1 0 2 0 0;";
+    const ONE_MOVE: &str =
+        "0 0 = 1 0; 1 0 0 0 1 0 = 1 1; 1 0 1 0 1 0 = 0 8 0; 3 0 = 2 2 1 4 1 0 2 0 0;";
 
     // At 1,024 tables: the next is refused; plays at the last and at the first.
     const MANY: u32 = 1024;
 
-    const FULL: &[u8] = b"0 0 = 0 8 0; 1 1023 0 0 2 0 = 1 1; 1 0 0 0 1 0 = 1 1;\
+    const FULL: &str = "0 0 = 0 8 0; 1 1023 0 0 2 0 = 1 1; 1 0 0 0 1 0 = 1 1;\
         3 1023 = 2 2 1 3 1 0 2 0 0; 3 0 = 2 2 1 4 1 0 2 0 0; 3 1022 = 2 2 0 5 0 0 2 0 0; 3 1024 = 0 4 0;";
 
     // A back call, and two bytes too many.
@@ -91,19 +91,22 @@ mod tests {
         })
     }
 
-    // How opening was refused, or 0 and 0.
-    fn opened(limits: Limits, game: &[u8], m: &mut Memory) -> (u32, u32) {
-        match open(
+    // How opening was refused, if it was.
+    fn opened(limits: Limits, game: &[u8], m: &mut Memory) -> Option<Refusal> {
+        open(
             limits,
             game,
             &mut m.rules,
             &mut m.state,
             &m.scratch,
             &m.answer,
-        ) {
-            Ok(_) => (0, 0),
-            Err(refusal) => (refusal.number, refusal.place),
-        }
+        )
+        .err()
+    }
+
+    // A refusal of a game, of limits or of memory.
+    fn unopened(place: u32) -> Option<Refusal> {
+        Some(Refusal { number: 3, place })
     }
 
     fn serve(m: &mut Memory, bytes: &[u8]) -> usize {
@@ -111,21 +114,11 @@ mod tests {
     }
 
     fn all_are(words: &[u32], word: u32) -> bool {
-        for x in words {
-            if *x != word {
-                return false;
-            }
-        }
-        true
+        words.iter().all(|x| *x == word)
     }
 
     fn rest_is_kept(answer: &[u8], size: usize) -> bool {
-        for x in answer.iter().skip(size) {
-            if *x != BYTE {
-                return false;
-            }
-        }
-        true
+        answer.iter().skip(size).all(|x| *x == BYTE)
     }
 
     fn is_untouched(m: &Memory, word: u32) -> bool {
@@ -157,70 +150,32 @@ mod tests {
         }
     }
 
+    // The bytes of a call or an answer that is written as numbers.
+    fn bytes_of(heap: Global, numbers: &str) -> Result<Vec<u8>, Fail> {
+        let mut bytes = Vec::new(heap);
+        for word in numbers.split_whitespace() {
+            add(&mut bytes, word.parse::<u32>()?)?;
+        }
+        Ok(bytes)
+    }
+
     // Makes calls and checks their answers.
-    fn go_through(
-        rt: &impl Abort,
-        heap: Global,
-        m: &mut Memory,
-        script: &[u8],
-    ) -> Result<(), Fail> {
-        let mut asked = Vec::new(heap);
-        let mut told = Vec::new(heap);
-        let mut is_told = false;
-        let mut number = None;
-        for c in script {
-            if c.is_ascii_digit() {
-                number = with_digit(number, *c);
-                continue;
-            }
-            if let Some(n) = number {
-                if is_told {
-                    add(&mut told, n)?;
-                } else {
-                    add(&mut asked, n)?;
-                }
-                number = None;
-            }
-            if *c == b'=' {
-                is_told = true;
-            }
-            if *c == b';' {
-                ask(rt, m, &asked, &told)?;
-                asked.clear();
-                told.clear();
-                is_told = false;
-            }
+    fn go_through(rt: &impl Abort, heap: Global, m: &mut Memory, script: &str) -> Result<(), Fail> {
+        for line in script.split_terminator(';') {
+            let (asked, told) = line
+                .split_once('=')
+                .ok_or_else(|| Fail::new("a call and its answer"))?;
+            ask(rt, m, &bytes_of(heap, asked)?, &bytes_of(heap, told)?)?;
         }
         Ok(())
     }
 
-    fn with_digit(number: Option<u32>, digit: u8) -> Option<u32> {
-        let n = match number {
-            Some(n) => n,
-            None => 0,
-        };
-        Some(
-            n.saturating_mul(10)
-                .saturating_add(digit.saturating_sub(b'0') as u32),
-        )
-    }
-
     // Whether words are these numbers.
-    fn are(words: &[u32], text: &[u8]) -> bool {
-        let mut k = 0usize;
-        let mut number = None;
-        for c in text {
-            if c.is_ascii_digit() {
-                number = with_digit(number, *c);
-                continue;
-            }
-            if k >= words.len() || Some(words[k]) != number {
-                return false;
-            }
-            k = k.saturating_add(1);
-            number = None;
-        }
-        k == words.len()
+    fn are(words: &[u32], numbers: &str) -> bool {
+        words
+            .iter()
+            .map(|x| Some(*x))
+            .eq(numbers.split_whitespace().map(|n| n.parse::<u32>().ok()))
     }
 
     // A server for the pile.
@@ -231,7 +186,7 @@ mod tests {
         sizes: [usize; 4],
     ) -> Result<Memory, Fail> {
         let mut m = filled(heap, sizes, WORD)?;
-        assert_eq!(rt; opened(limits, PILE, &mut m), (0, 0));
+        assert_eq!(rt; opened(limits, PILE, &mut m), None);
         Ok(m)
     }
 
@@ -274,7 +229,7 @@ mod tests {
                 no_call(
                     &rt,
                     &mut m,
-                    &LONG[0..(n as usize).min(LONG.len())],
+                    &LONG[0..usize::from(n).min(LONG.len())],
                     n.min(9),
                 )?;
             }
@@ -323,7 +278,7 @@ mod tests {
         limits: Limits,
         game: &[u8],
         sizes: [usize; 4],
-    ) -> Result<(u32, u32), Fail> {
+    ) -> Result<Option<Refusal>, Fail> {
         let mut m = filled(heap, sizes, WORD)?;
         let refusal = opened(limits, game, &mut m);
         assert!(rt; is_untouched(&m, WORD));
@@ -345,7 +300,7 @@ mod tests {
             [rules, state, scratch - 1, answer],
             [rules, state, scratch, answer - 1],
         ] {
-            assert_eq!(rt; refused(&rt, rt.alloc(), TWO, PILE, short)?, (3, 2));
+            assert_eq!(rt; refused(&rt, rt.alloc(), TWO, PILE, short)?, unopened(2));
         }
         Ok(())
     }
@@ -363,11 +318,11 @@ mod tests {
                 moves,
                 positions,
             };
-            assert_eq!(rt; refused(&rt, heap, limits, PILE, large)?, (3, 1));
+            assert_eq!(rt; refused(&rt, heap, limits, PILE, large)?, unopened(1));
         }
-        assert_eq!(rt; refused(&rt, heap, TWO, FIVE, large)?, (3, 1));
-        assert_eq!(rt; refused(&rt, heap, TWO, &PILE[0..73], large)?, (3, 0));
-        assert_eq!(rt; refused(&rt, heap, TWO, b"", large)?, (3, 0));
+        assert_eq!(rt; refused(&rt, heap, TWO, FIVE, large)?, unopened(1));
+        assert_eq!(rt; refused(&rt, heap, TWO, &PILE[0..73], large)?, unopened(0));
+        assert_eq!(rt; refused(&rt, heap, TWO, b"", large)?, unopened(0));
         Ok(())
     }
 

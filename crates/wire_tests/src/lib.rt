@@ -21,13 +21,11 @@ mod tests {
         12, 11, 4, 9, 1, 0, 0, 0, 0, 2, 0, 0, 0, 0, 0, 1, 0, // gain if same me rest cell 0 2 0 1
     ];
 
-    // 2 if it is a good game, else the place of the refusal; 9 if that is not by 3.
-    fn verdict(game: &[u8]) -> u32 {
-        match check_game(game) {
-            Ok(_) => 2,
-            Err(refusal) if refusal.number == 3 => refusal.place,
-            Err(_) => 9,
-        }
+    // The number and the place of the refusal, if it is no good game.
+    fn verdict(game: &[u8]) -> Option<(u32, u32)> {
+        check_game(game)
+            .err()
+            .map(|refusal| (refusal.number, refusal.place))
     }
 
     fn push_two(game: &mut Vec<u8>, n: u16) -> Result<(), AllocError> {
@@ -65,7 +63,7 @@ mod tests {
     }
 
     // The verdict on a game with so many players and cells and one rule.
-    fn with_size(heap: Global, players: u8, cells: u16) -> Result<u32, AllocError> {
+    fn with_size(heap: Global, players: u8, cells: u16) -> Result<Option<(u32, u32)>, AllocError> {
         let mut game = begun(heap, players, cells, 0)?;
         game.push(4)?;
         game.push(4)?;
@@ -73,7 +71,12 @@ mod tests {
     }
 
     // The verdict on a game with `many` rules of one move, and one rule with these bounds.
-    fn with_rules(heap: Global, many: u8, first: u16, second: u16) -> Result<u32, AllocError> {
+    fn with_rules(
+        heap: Global,
+        many: u8,
+        first: u16,
+        second: u16,
+    ) -> Result<Option<(u32, u32)>, AllocError> {
         let mut game = begun(heap, 2, 1, many.saturating_add(1))?;
         for _ in 0..many {
             push_rule(&mut game, 1, 1, 0)?;
@@ -110,49 +113,49 @@ mod tests {
     #[test]
     fn form(rt: HostRuntime) -> Result<(), Fail> {
         for n in 0..74usize {
-            assert_eq!(rt; verdict(&PILE[0..n]), 0);
+            assert_eq!(rt; verdict(&PILE[0..n]), Some((3, 0)));
         }
         let mut game = PILE.to_vec(rt.alloc())?;
-        assert_eq!(rt; verdict(game.as_slice()), 2);
+        assert_eq!(rt; verdict(game.as_slice()), None);
         game.push(4)?;
-        assert_eq!(rt; verdict(game.as_slice()), 0);
+        assert_eq!(rt; verdict(game.as_slice()), Some((3, 0)));
         // a kind that there is not, in place of gain
         let mut game = begun(rt.alloc(), 2, 1, 0)?;
         game.push(4)?;
         game.push(13)?;
-        assert_eq!(rt; verdict(game.as_slice()), 0);
+        assert_eq!(rt; verdict(game.as_slice()), Some((3, 0)));
         Ok(())
     }
 
     #[test]
     fn sizes(rt: HostRuntime) -> Result<(), Fail> {
         let heap = rt.alloc();
-        assert_eq!(rt; with_size(heap, 0, 1)?, 1);
-        assert_eq!(rt; with_size(heap, 1, 1)?, 2);
-        assert_eq!(rt; with_size(heap, 4, 1)?, 2);
-        assert_eq!(rt; with_size(heap, 5, 1)?, 1);
-        assert_eq!(rt; with_size(heap, 2, 0)?, 1);
-        assert_eq!(rt; with_size(heap, 2, 256)?, 2);
-        assert_eq!(rt; with_size(heap, 2, 257)?, 1);
-        assert_eq!(rt; with_rules(heap, 63, 1, 1)?, 2);
-        assert_eq!(rt; with_rules(heap, 64, 1, 1)?, 1);
-        assert_eq!(rt; with_rules(heap, 0, 256, 1)?, 2);
-        assert_eq!(rt; with_rules(heap, 0, 257, 1)?, 1);
-        assert_eq!(rt; with_rules(heap, 0, 1, 257)?, 1);
-        assert_eq!(rt; with_rules(heap, 0, 256, 16)?, 2);
-        assert_eq!(rt; with_rules(heap, 1, 256, 16)?, 1);
+        assert_eq!(rt; with_size(heap, 0, 1)?, Some((3, 1)));
+        assert_eq!(rt; with_size(heap, 1, 1)?, None);
+        assert_eq!(rt; with_size(heap, 4, 1)?, None);
+        assert_eq!(rt; with_size(heap, 5, 1)?, Some((3, 1)));
+        assert_eq!(rt; with_size(heap, 2, 0)?, Some((3, 1)));
+        assert_eq!(rt; with_size(heap, 2, 256)?, None);
+        assert_eq!(rt; with_size(heap, 2, 257)?, Some((3, 1)));
+        assert_eq!(rt; with_rules(heap, 63, 1, 1)?, None);
+        assert_eq!(rt; with_rules(heap, 64, 1, 1)?, Some((3, 1)));
+        assert_eq!(rt; with_rules(heap, 0, 256, 1)?, None);
+        assert_eq!(rt; with_rules(heap, 0, 257, 1)?, Some((3, 1)));
+        assert_eq!(rt; with_rules(heap, 0, 1, 257)?, Some((3, 1)));
+        assert_eq!(rt; with_rules(heap, 0, 256, 16)?, None);
+        assert_eq!(rt; with_rules(heap, 1, 256, 16)?, Some((3, 1)));
         Ok(())
     }
 
     #[test]
     fn depth(rt: HostRuntime) -> Result<(), Fail> {
         let heap = rt.alloc();
-        assert_eq!(rt; verdict(deep(heap, 32)?.as_slice()), 2);
-        assert_eq!(rt; verdict(deep(heap, 33)?.as_slice()), 1);
+        assert_eq!(rt; verdict(deep(heap, 32)?.as_slice()), None);
+        assert_eq!(rt; verdict(deep(heap, 33)?.as_slice()), Some((3, 1)));
         let mut garbage = deep(heap, 33)?;
         garbage.push(99)?;
-        assert_eq!(rt; verdict(garbage.as_slice()), 0);
-        assert_eq!(rt; verdict(deep(heap, 1000000)?.as_slice()), 1);
+        assert_eq!(rt; verdict(garbage.as_slice()), Some((3, 0)));
+        assert_eq!(rt; verdict(deep(heap, 1000000)?.as_slice()), Some((3, 1)));
         Ok(())
     }
 
@@ -169,11 +172,11 @@ mod tests {
         let mut more = game.clone()?;
         game.push(4)?;
         game.push(4)?;
-        assert_eq!(rt; verdict(game.as_slice()), 2);
+        assert_eq!(rt; verdict(game.as_slice()), None);
         more.push(1)?;
         more.push(4)?;
         more.push(4)?;
-        assert_eq!(rt; verdict(more.as_slice()), 1);
+        assert_eq!(rt; verdict(more.as_slice()), Some((3, 1)));
         Ok(())
     }
 
@@ -337,14 +340,14 @@ mod tests {
         Ok(())
     }
 
-    // How many bytes a call with this first byte has, by the numbers of the format; 0 if there is no such call.
-    fn right_length(kind: u8) -> usize {
+    // How many bytes a call with this first byte has, by the numbers of the format, if there is such a call.
+    fn right_length(kind: u8) -> Option<usize> {
         match kind {
-            0 | 2 | 3 | 4 => 5,
-            1 => 21,
-            5 => 9,
-            6 => 17,
-            _ => 0,
+            0 | 2 | 3 | 4 => Some(5),
+            1 => Some(21),
+            5 => Some(9),
+            6 => Some(17),
+            _ => None,
         }
     }
 
@@ -353,9 +356,10 @@ mod tests {
         for kind in 0..=255u8 {
             let mut call = [0u8; 22];
             call[0] = kind;
-            let n = right_length(kind);
+            let length = right_length(kind);
+            let n = length.unwrap_or(0);
             if n <= 22 {
-                assert_eq!(rt; read_call(&call[0..n]).is_ok(), n > 0);
+                assert_eq!(rt; read_call(&call[0..n]).is_ok(), length.is_some());
             }
             assert_eq!(rt; read_call(&call).err(), Some(n));
         }
