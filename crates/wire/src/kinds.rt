@@ -21,7 +21,7 @@ pub enum ExprKind {
     If,
 }
 
-// A byte that is no kind, of an expression or of a call.
+// A byte that is no kind, of an expression, a call or an answer.
 #[derive(Clone, Copy, PartialEq, Eq, Debug)]
 pub struct UnknownKind;
 
