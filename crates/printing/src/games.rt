@@ -9,6 +9,7 @@ ghost use Rattle.printing.specs.Walk.{Headed, OnePut, AllPut, EachPut, exprs_byt
 ghost use Rattle.printing.specs.Sorts.{Sort, SortLaws, cells, effects, rules, cells_laws, effects_laws, rules_laws};
 
 use super::writer::Writer;
+use rules::{Reason, Refusal};
 use wire::{ExprKind, check_game, two_bytes};
 
 // The bytes after the first n.
@@ -167,7 +168,7 @@ fn is_game(game: &[u8]) -> bool
 {
     match check_game(game) {
         Ok(_) => true,
-        Err(refusal) => refusal.place != 0,
+        Err(refusal) => refusal != Refusal::from(Reason::NoGame),
     }
 }
 
