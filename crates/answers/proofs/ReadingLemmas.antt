@@ -11,7 +11,7 @@ use Rattle.std.proofs.lemmas.List.{take-take, drop-take, drop-drop, length-take-
 use Rattle.wire.specs.Numbers.{bytes_value}
 use Rattle.wire.specs.Fields.{field_at, fields_at}
 use Rattle.answers.specs.declared.kinds.AnswerKind.{AnswerKind}
-use Rattle.answers.specs.declared.kinds.UnknownKind.{UnknownKind}
+use Rattle.wire.specs.declared.kinds.UnknownKind.{UnknownKind}
 use Rattle.answers.specs.declared.Reply.{Reply}
 use Rattle.answers.specs.Answers.{moves_at, whole, parse_as, parse_answer}
 use Rattle.answers.specs.Kinds.{kind_number, IsKind}

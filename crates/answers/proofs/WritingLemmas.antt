@@ -1,31 +1,14 @@
 -- What is written in parts is the whole.
-use Rattle.std.proofs.Common.{◌≡◌, ℕ, ◌+◌, ◌*◌, ◌<◌, ◌≤◌, List, [], ◌∷◌, ◌++◌, length, set, Some, None, sym, refl, ap, ◌∙◌, arith, length-append, length-set}
+use Rattle.std.proofs.Common.{◌≡◌, ℕ, ◌+◌, ◌*◌, ◌≤◌, List, [], ◌∷◌, ◌++◌, length, set, sym, refl, ap, ◌∙◌, arith, length-append, length-set}
 use Rattle.std.proofs.lemmas.List.{append_assoc}
 use Rattle.wire.specs.Numbers.{number_bytes}
-use Rattle.wire.specs.Fields.{fields_bytes, written, room}
+use Rattle.wire.specs.Fields.{fields_bytes, written}
 use Rattle.wire.proofs.FieldLists.{length_fields_bytes, fields_append}
-use Rattle.wire.proofs.Writing.{written_none, length_written, written_before, fields_then, no_room, room_for, first_field, then_field, then_fields, after_kind}
+use Rattle.wire.proofs.Writing.{length_written, written_before, fields_then, first_field, then_field, then_fields, after_kind}
 use Rattle.rules.specs.declared.Move.{Move}
 use Rattle.answers.specs.Answers.{moves_fields, answer_kind, answer_fields, answer_bytes}
 use Rattle.answers.specs.Writing.{list_head, moves_bytes, ListInParts}
 use Rattle.answers.proofs.AnswerBytes.{length_moves}
-
--- a kind and numbers, for which there is no room, or room
-module _ (k : ℕ) (ns old : List ℕ) where
-  pub none_written : length old < 1 + 4 * length ns → (None ≡ room 0 (k ∷ fields_bytes ns) old) × (old ≡ written 0 (k ∷ fields_bytes ns) old)
-  none_written h =
-      let short : length old < 0 + length (k ∷ fields_bytes ns) = omega (arith, length_fields_bytes ns) in
-      (no_room 0 (k ∷ fields_bytes ns) old short, sym (written_none 0 (k ∷ fields_bytes ns) old short))
-
-  pub all_written :
-      {new : List ℕ} → 1 + 4 * length ns ≤ length old → new ≡ written 1 (fields_bytes ns) (set old 0 k)
-      → (Some (1 + 4 * length ns) ≡ room 0 (k ∷ fields_bytes ns) old) × (new ≡ written 0 (k ∷ fields_bytes ns) old)
-  all_written h e = (room_for 0 (1 + 4 * length ns) (k ∷ fields_bytes ns) old (omega (arith, length_fields_bytes ns)) (omega arith), after_kind old k ns e h)
-
--- a kind and one number, put by itself
-pub one_written :
-    (old new : List ℕ) (k n : ℕ) → 5 ≤ length old → new ≡ written 1 (number_bytes 4 n) (set old 0 k) → new ≡ written 0 (k ∷ fields_bytes (n ∷ [])) old
-one_written old new k n fits e = after_kind old k (n ∷ []) (first_field (set old 0 k) 1 n e) fits
 
 -- a position
 pub shown_written :

@@ -2,7 +2,7 @@
 use Rattle.std.specs.Prelude.{◌≡◌, ◌<◌, ℕ, Result, MatchResult}
 use Rattle.answers.specs.declared.kinds.AnswerKind.{AnswerKind}
 use Rattle.answers.specs.declared.kinds.AnswerKind.TheVariants.{Refused, Number, Shown, Listed, Forced}
-use Rattle.answers.specs.declared.kinds.UnknownKind.{UnknownKind}
+use Rattle.wire.specs.declared.kinds.UnknownKind.{UnknownKind}
 
 abbrev pub kind_number : AnswerKind → ℕ
 kind_number Refused = 0

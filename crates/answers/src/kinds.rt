@@ -2,6 +2,8 @@
 ghost use Rattle.std.specs.Prelude.{◌≡◌};
 ghost use Rattle.answers.specs.Kinds.{kind_number, IsKind};
 
+use wire::UnknownKind;
+
 // By names; as bytes they are the numbers from 0 on.
 #[derive(Clone, Copy)]
 pub enum AnswerKind {
@@ -11,10 +13,6 @@ pub enum AnswerKind {
     Listed,
     Forced,
 }
-
-// A byte that is no kind of answer.
-#[derive(Clone, Copy)]
-pub struct UnknownKind;
 
 impl TryFrom<u8> for AnswerKind {
     type Error = UnknownKind;

@@ -1,40 +1,26 @@
 // Answers written as bytes. Each writer says how many bytes it wrote; where they have no room it writes none and says None.
-ghost use Rattle.std.specs.Prelude.{◌≡◌, ◌+◌, ◌*◌, ◌<◌, ◌≤◌, ◌∷◌, MatchOption};
+ghost use Rattle.std.specs.Prelude.{◌≡◌, ◌+◌, ◌*◌, ◌<◌, ◌≤◌, MatchOption};
 ghost use Rattle.rules.specs.Calls.{refused, number, shown, forced};
-ghost use Rattle.wire.specs.Fields.{fields_bytes, written, room};
+ghost use Rattle.wire.specs.Fields.{written, room};
 ghost use Rattle.answers.specs.Answers.{answer_bytes};
-ghost use Rattle.answers.specs.Kinds.{kind_number};
 ghost use Rattle.answers.specs.Writing.{list_head, move_bytes};
 
 use super::kinds::AnswerKind;
 use rules::{Move, Refusal};
-use wire::{put_field, put_fields};
-
-// A kind and numbers.
-fn write_numbers(answer: &mut [u8], kind: AnswerKind, numbers: &[u32]) -> Option<usize>
-    ensures size { result ≡ room 0 (kind_number kind ∷ fields_bytes numbers.now) answer.old }
-    ensures bytes { answer.new ≡ written 0 (kind_number kind ∷ fields_bytes numbers.now) answer.old }
-{
-    if answer.len().checked_sub(1)? / 4 < numbers.len() {
-        return None;
-    }
-    answer[0] = kind.into();
-    put_fields(answer, 1, numbers);
-    Some(1 + 4 * numbers.len())
-}
+use wire::{put_field, put_fields, write_kind_and_fields};
 
 pub fn write_number(answer: &mut [u8], n: u32) -> Option<usize>
     ensures size { result ≡ room 0 (answer_bytes (number n)) answer.old }
     ensures bytes { answer.new ≡ written 0 (answer_bytes (number n)) answer.old }
 {
-    write_numbers(answer, AnswerKind::Number, &[n])
+    write_kind_and_fields(answer, AnswerKind::Number.into(), &[n])
 }
 
 pub fn write_forced(answer: &mut [u8], n: u32) -> Option<usize>
     ensures size { result ≡ room 0 (answer_bytes (forced n)) answer.old }
     ensures bytes { answer.new ≡ written 0 (answer_bytes (forced n)) answer.old }
 {
-    write_numbers(answer, AnswerKind::Forced, &[n])
+    write_kind_and_fields(answer, AnswerKind::Forced.into(), &[n])
 }
 
 // What stands before the moves of a list: its kind, and how many they are.
@@ -42,7 +28,7 @@ pub fn write_list_head(answer: &mut [u8], count: u32) -> Option<usize>
     ensures size { result ≡ room 0 (list_head count) answer.old }
     ensures bytes { answer.new ≡ written 0 (list_head count) answer.old }
 {
-    write_numbers(answer, AnswerKind::Listed, &[count])
+    write_kind_and_fields(answer, AnswerKind::Listed.into(), &[count])
 }
 
 // A move of a list, from a place on: the first at 5, and 12 bytes each.
@@ -61,9 +47,9 @@ pub fn write_refusal(answer: &mut [u8], refusal: Refusal) -> Option<usize>
     ensures size { result ≡ room 0 (answer_bytes (refused refusal)) answer.old }
     ensures bytes { answer.new ≡ written 0 (answer_bytes (refused refusal)) answer.old }
 {
-    write_numbers(
+    write_kind_and_fields(
         answer,
-        AnswerKind::Refused,
+        AnswerKind::Refused.into(),
         &[refusal.number, refusal.place],
     )
 }

@@ -2,8 +2,8 @@
 -- where a text can't be read on, `expected_at`, is as the machine says.
 use Rattle.std.specs.Prelude.{ℕ, zero, suc, ◌+◌, ◌-◌, ◌*◌, ◌/◌, ◌%◌, Bool, true, false, cond, not, ◌&&◌, ◌||◌, List, [], ◌∷◌, ◌++◌, length, take, Some, None, Ok, Err, codes, Option, Result, ◌==◌, nat_lt, slice_set}
 use Rattle.wire.specs.Exprs.{kind_after}
-use Rattle.wire.specs.Kinds.{kind_number}
-use Rattle.wire.specs.declared.kinds.ExprKind.TheVariants.{Num, Cell, First, Second, Me, Add, Sub, Mul, Div, Rem, Lt, Eq, If}
+use Rattle.wire.specs.Kinds.{kind_number, kind_letters}
+use Rattle.wire.specs.declared.kinds.ExprKind.TheVariants.{Cell, First, Second, Me, Add, Sub, Mul, Div, Rem, Lt, Eq, If}
 use Rattle.text.specs.Grammar.{digit}
 use Rattle.game_text.specs.declared.progress.Part.{Part}
 use Rattle.game_text.specs.declared.progress.Part.TheVariants.{Guard, Effect, Terminal, Payoff}
@@ -17,7 +17,7 @@ use Rattle.game_text.specs.declared.progress.Expected.TheVariants.{ThePlayers, P
 use Rattle.game_text.specs.declared.progress.Fault.{Fault}
 use Rattle.game_text.specs.Text.{white}
 
--- how the words are written. A number is no word
+-- how the words are written; a number has no letters
 abbrev pub spelling : Word → List ℕ
 spelling Players = codes "players"
 spelling Cells = codes "cells"
@@ -26,19 +26,7 @@ spelling May = codes "may"
 spelling Set = codes "set"
 spelling Over = codes "over"
 spelling Gain = codes "gain"
-spelling (Kind Num) = []
-spelling (Kind Cell) = codes "cell"
-spelling (Kind First) = codes "first"
-spelling (Kind Second) = codes "second"
-spelling (Kind Me) = codes "me"
-spelling (Kind Add) = codes "+"
-spelling (Kind Sub) = codes "-"
-spelling (Kind Mul) = codes "*"
-spelling (Kind Div) = codes "/"
-spelling (Kind Rem) = codes "rest"
-spelling (Kind Lt) = codes "below"
-spelling (Kind Eq) = codes "same"
-spelling (Kind If) = codes "if"
+spelling (Kind k) = kind_letters k
 
 abbrev pub kind_words : List Word
 kind_words =

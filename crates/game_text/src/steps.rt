@@ -16,6 +16,8 @@ fn is_white(b: u8) -> bool
 }
 
 // If the bytes before place i are all: the number or the word that ends there is taken.
+// Each step is about one place, which the definition of the machine passes on from step to step: a struct that held it
+// would be made anew for each byte, and be no plainer.
 pub(super) fn settle(
     text: &[u8],
     i: usize,
@@ -51,15 +53,10 @@ fn add_digit(n: u16, b: u8, p: Progress) -> Option<Token>
         return None;
     }
     let more = usize::from(n) * 10 + usize::from(b - b'0');
-    if more < bound_of(p) {
-        Some(Token::Digits(more as u16))
-    } else {
-        None
-    }
+    (more < bound_of(p)).then(|| Token::Digits(more as u16))
 }
 
 // One more letter of the word that began at `from`, if a word may go on so.
-// Here and below the place is asked for by each step and kept by no struct, since it moves with each byte.
 fn add_letter(text: &[u8], from: usize, i: usize, p: Progress) -> Option<Token>
     requires { (i < length text.now) × ((from ≤ i) × (Room p i)) }
     ensures { SameLexer (more_letters (slice_range text.now from i) (slice_index text.now i) p) text.now (i + 1) p result }

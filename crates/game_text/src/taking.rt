@@ -8,7 +8,7 @@ ghost use Rattle.game_text.specs.declared.progress.Word.TheVariants.{Rule, Over,
 use super::progress::{Part, Progress, Stage, Word};
 
 // How far reading has come, and the memory that the bytes go to.
-// How large `len` may be is asked for and kept by no field, since it comes from the place in the text.
+// How large `len` may be is asked for by each and kept by no ghost field, which beside a `&mut` gets no generated proof.
 #[derive(Drop)]
 pub(super) struct Writer<'a> {
     pub at: Progress,

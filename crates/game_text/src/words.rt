@@ -25,7 +25,7 @@ const KIND_WORDS: [Word; 12] = [
     Word::Kind(ExprKind::If),
 ];
 
-// How a word is written. A number is no word.
+// How a word is written; a number has no letters.
 fn spelling(word: Word) -> &'static [u8]
     ensures { result.now ≡ spelling word }
 {
@@ -37,19 +37,7 @@ fn spelling(word: Word) -> &'static [u8]
         Word::Set => b"set",
         Word::Over => b"over",
         Word::Gain => b"gain",
-        Word::Kind(ExprKind::Num) => b"",
-        Word::Kind(ExprKind::Cell) => b"cell",
-        Word::Kind(ExprKind::First) => b"first",
-        Word::Kind(ExprKind::Second) => b"second",
-        Word::Kind(ExprKind::Me) => b"me",
-        Word::Kind(ExprKind::Add) => b"+",
-        Word::Kind(ExprKind::Sub) => b"-",
-        Word::Kind(ExprKind::Mul) => b"*",
-        Word::Kind(ExprKind::Div) => b"/",
-        Word::Kind(ExprKind::Rem) => b"rest",
-        Word::Kind(ExprKind::Lt) => b"below",
-        Word::Kind(ExprKind::Eq) => b"same",
-        Word::Kind(ExprKind::If) => b"if",
+        Word::Kind(kind) => kind.word(),
     }
 }
 

@@ -1,5 +1,5 @@
 -- What printing the bytes of a game answers.
-use Rattle.std.proofs.Common.{◌≡◌, ℕ, ◌*◌, ◌≤◌, true, false, cond, not, eqb, List, length, is_some, Some, None, Ok, Err, Option, Result, sym, refl, ap, ◌∙◌, arith}
+use Rattle.std.proofs.Common.{◌≡◌, ℕ, ◌*◌, ◌≤◌, true, false, cond, not, nat_eq, Bool, ◌&&◌, List, length, is_some, Some, None, Ok, Err, Option, Result, sym, refl, ap, ◌∙◌, arith}
 use Rattle.std.proofs.lemmas.Bool.{true≢false}
 use Rattle.rules.specs.declared.Refusal.{Refusal}
 use Rattle.rules.specs.Rules.{Game}
@@ -15,20 +15,20 @@ use Rattle.printing.proofs.Putting.{filled_by, size_told}
 use Rattle.printing.proofs.Sizes.{fits}
 use Rattle.printing.proofs.Texts.{is_text}
 
--- where a check says that bytes are refused, 2 if they are not
-abbrev pub place_of : {A : Type 0} → Result A Refusal → ℕ
-place_of (Ok a) = 2
-place_of (Err r) = r.place
+-- whether a check tells anything else than that bytes are no game
+abbrev pub game_told : {A : Type 0} → Result A Refusal → Bool
+game_told (Ok a) = true
+game_told (Err r) = not (nat_eq r.number 3 && nat_eq r.place 0)
 
--- just bytes that are no game are refused at 0
-pub game_there : (bs : List ℕ) → not (eqb (place_of (checked bs)) 0) ≡ is_some (parse_game bs)
+-- just of bytes that are no game it tells so
+pub game_there : (bs : List ℕ) → game_told (checked bs) ≡ is_some (parse_game bs)
 unfolding checked
 game_there bs = there (parse_game bs)
   where
-    there : (o : Option Game) → not (eqb (place_of (checked_game o)) 0) ≡ is_some o
+    there : (o : Option Game) → game_told (checked_game o) ≡ is_some o
     there None = refl
     there (Some g) =
-        elim (good_game g) as (λ b. not (eqb (place_of (cond b (Ok (size_of g)) (Err (record { number = 3; place = 1 })))) 0) ≡ true) [ true ↦ refl | false ↦ refl ]
+        elim (good_game g) as (λ b. game_told (cond b (Ok (size_of g)) (Err (record { number = 3; place = 1 }))) ≡ true) [ true ↦ refl | false ↦ refl ]
 
 pub game_printed :
     (o : Option Game) {a b : Writer} → a.at ≡ 0 → true ≡ is_some o → length a.out.now ≤ 18446744073709551615 → ((g : Game) → o ≡ Some g → Wrote a (printed g) b) →

@@ -1,7 +1,9 @@
 -- What the steps of printing a game find in its bytes. No reader has to believe these: the contract of the whole does not name them.
-use Rattle.std.specs.Prelude.{◌≡◌, ℕ, Bool, true, ◌&&◌, List, [], ◌∷◌, ◌++◌, length, codes, slice_index_or}
+use Rattle.std.specs.Prelude.{◌≡◌, ℕ, Bool, true, ◌&&◌, List, [], ◌∷◌, ◌++◌, length, map, slice_index_or}
 use Rattle.rules.specs.Rules.{Expr, Num, Cell, First, Second, Me, Add, Sub, Mul, Div, Rem, Lt, Eq, If}
 use Rattle.wire.specs.Exprs.{expr_bytes, expr_fits}
+use Rattle.wire.specs.Kinds.{kind_letters}
+use Rattle.wire.specs.declared.kinds.ExprKind.TheVariants as kinds
 use Rattle.text.specs.Grammar.{Piece, number}
 use Rattle.game_text.specs.Text.{expr_pieces}
 use Rattle.printing.specs.declared.writer.Writer.{Writer}
@@ -25,8 +27,8 @@ exprs_pieces (e ∷ es) = expr_pieces e ++ exprs_pieces es
 -- the words of the kinds from 0 on, with a blank in front; a number has none
 abbrev pub kind_words : List (List ℕ)
 kind_words =
-    [] ∷ codes " cell" ∷ codes " first" ∷ codes " second" ∷ codes " me" ∷ codes " +" ∷ codes " -" ∷ codes " *" ∷ codes " /" ∷ codes " rest"
-    ∷ codes " below" ∷ codes " same" ∷ codes " if" ∷ []
+    [] ∷ map (λ k. 32 ∷ kind_letters k) (kinds.Cell ∷ kinds.First ∷ kinds.Second ∷ kinds.Me ∷ kinds.Add ∷ kinds.Sub ∷ kinds.Mul ∷ kinds.Div
+    ∷ kinds.Rem ∷ kinds.Lt ∷ kinds.Eq ∷ kinds.If ∷ [])
 
 abbrev pub kind_word : ℕ → List ℕ
 kind_word k = slice_index_or kind_words k []

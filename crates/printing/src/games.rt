@@ -3,13 +3,13 @@ ghost use Rattle.std.specs.Prelude.{◌≡◌, ℕ, ◌<◌, ◌≤◌, true, Li
 ghost use Rattle.rules.specs.Rules.{Expr, Game};
 ghost use Rattle.wire.specs.Exprs.{expr_bytes, expr_fits};
 ghost use Rattle.wire.specs.Games.{game_bytes, fits_bytes, parse_game};
-ghost use Rattle.wire.specs.Kinds.{kind_number};
 ghost use Rattle.printing.specs.Games.{printed, printed_size, printed_into, ExactSize, PrintedIsText, PrintedReadsBack, PrintedFits};
 ghost use Rattle.printing.specs.Puts.{Wrote};
-ghost use Rattle.printing.specs.Walk.{kind_word, Headed, OnePut, AllPut, EachPut, exprs_bytes, exprs_fit, exprs_text, exprs_line};
+ghost use Rattle.printing.specs.Walk.{Headed, OnePut, AllPut, EachPut, exprs_bytes, exprs_fit, exprs_text, exprs_line};
 ghost use Rattle.printing.specs.Sorts.{Sort, SortLaws, cells, effects, rules, cells_laws, effects_laws, rules_laws};
 
 use super::writer::Writer;
+use rules::{Reason, Refusal};
 use wire::{ExprKind, check_game, two_bytes};
 
 // The bytes after the first n.
@@ -30,27 +30,6 @@ fn first_number(bytes: &[u8]) -> (u8, &[u8])
     }
 }
 
-// A blank and the word of a kind of expression; a number has none.
-fn word_of(kind: ExprKind) -> &'static [u8]
-    ensures { result.now ≡ kind_word (kind_number kind) }
-{
-    match kind {
-        ExprKind::Num => b"",
-        ExprKind::Cell => b" cell",
-        ExprKind::First => b" first",
-        ExprKind::Second => b" second",
-        ExprKind::Me => b" me",
-        ExprKind::Add => b" +",
-        ExprKind::Sub => b" -",
-        ExprKind::Mul => b" *",
-        ExprKind::Div => b" /",
-        ExprKind::Rem => b" rest",
-        ExprKind::Lt => b" below",
-        ExprKind::Eq => b" same",
-        ExprKind::If => b" if",
-    }
-}
-
 // The expression that bytes begin with, without its parts: how many parts it has, and the bytes from them on.
 fn put_head<'g>(writer: &mut Writer<'_>, game: &'g [u8]) -> (usize, &'g [u8])
     ensures text { (e : Expr) (rest : List ℕ) → game.now ≡ expr_bytes e ++ rest → expr_fits e ≡ true → Headed writer.old writer.new e result.0 result.1.now rest }
@@ -67,7 +46,8 @@ fn put_head<'g>(writer: &mut Writer<'_>, game: &'g [u8]) -> (usize, &'g [u8])
             (0, after(rest, 2))
         }
         _ => {
-            writer.word(word_of(kind));
+            writer.word(b" ");
+            writer.word(kind.word());
             (kind.arity(), rest)
         }
     }
@@ -188,7 +168,7 @@ fn is_game(game: &[u8]) -> bool
 {
     match check_game(game) {
         Ok(_) => true,
-        Err(refusal) => refusal.place != 0,
+        Err(refusal) => refusal != Refusal::from(Reason::NoGame),
     }
 }
 

@@ -41,7 +41,7 @@ fn put_moves(writer: &mut Writer<'_>, moves: &[[u8; 12]])
     }
 }
 
-// Whether a game goes on.
+// Whether a game goes on. Any number is an answer's end, so it stays a number: those that no server tells are printed as over.
 fn put_end(writer: &mut Writer<'_>, end: u32)
     ensures { Wrote writer.old (end_text end) writer.new }
 {

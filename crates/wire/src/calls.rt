@@ -1,11 +1,11 @@
 // Calls as bytes, read and written.
-ghost use Rattle.std.specs.Prelude.{◌≡◌, ◌∷◌};
-ghost use Rattle.wire.specs.Fields.{fields_at, fields_bytes, written, room};
+ghost use Rattle.std.specs.Prelude.{◌≡◌};
+ghost use Rattle.wire.specs.Fields.{fields_at, written, room};
 ghost use Rattle.wire.specs.Calls.{call_bytes, field_count, call_of, parse_call};
 ghost use Rattle.wire.specs.CallKinds.{byte_of, IsCallKind};
 ghost use Rattle.wire.specs.Calls.{CallReadsBack, CallWritesBack, CallPlaceIsLongestFront};
 
-use super::fields::{field_at, put_fields};
+use super::fields::{field_at, write_kind_and_fields};
 use super::kinds::UnknownKind;
 use rules::{Call, Move};
 
@@ -107,20 +107,6 @@ pub fn read_call(bytes: &[u8]) -> Result<Call, usize>
     Ok(call_at(kind, bytes))
 }
 
-// Writes a kind and its fields at the front, and says how many bytes they are; where they have no room nothing changes.
-fn write_kind(out: &mut [u8], kind: CallKind, fields: &[u32]) -> Option<usize>
-    ensures size { result ≡ room 0 (byte_of kind ∷ fields_bytes fields.now) out.old }
-    ensures bytes { out.new ≡ written 0 (byte_of kind ∷ fields_bytes fields.now) out.old }
-{
-    let size = 1 + 4 * fields.len();
-    if out.len() < size {
-        return None;
-    }
-    out[0] = kind.into();
-    put_fields(out, 1, fields);
-    Some(size)
-}
-
 // Writes a call at the front, and says how many bytes it is; where it has no room nothing changes.
 #[tactic(auto, unfolding(crate::specs::Calls::call_bytes, crate::specs::Calls::call_fields, rules::specs::Calls::call_number))]
 pub fn write_call(call: Call, out: &mut [u8]) -> Option<usize>
@@ -128,26 +114,34 @@ pub fn write_call(call: Call, out: &mut [u8]) -> Option<usize>
     ensures bytes { out.new ≡ written 0 (call_bytes call) out.old }
 {
     match call {
-        Call::Sit(ticks) => write_kind(out, CallKind::Sit, &[ticks]),
+        Call::Sit(ticks) => write_kind_and_fields(out, CallKind::Sit.into(), &[ticks]),
         Call::Play {
             table,
             player,
             played,
-        } => write_kind(
+        } => write_kind_and_fields(
             out,
-            CallKind::Play,
+            CallKind::Play.into(),
             &[table, player, played.rule, played.first, played.second],
         ),
-        Call::Ticks(n) => write_kind(out, CallKind::Ticks, &[n]),
-        Call::See(table) => write_kind(out, CallKind::See, &[table]),
-        Call::May(table) => write_kind(out, CallKind::May, &[table]),
-        Call::Back { table, moves } => write_kind(out, CallKind::Back, &[table, moves]),
+        Call::Ticks(n) => write_kind_and_fields(out, CallKind::Ticks.into(), &[n]),
+        Call::See(table) => write_kind_and_fields(out, CallKind::See.into(), &[table]),
+        Call::May(table) => write_kind_and_fields(out, CallKind::May.into(), &[table]),
+        Call::Back { table, moves } => write_kind_and_fields(
+            out,
+            CallKind::Back.into(),
+            &[table, moves],
+        ),
         Call::CanForce {
             table,
             player,
             gain,
             within,
-        } => write_kind(out, CallKind::CanForce, &[table, player, gain, within]),
+        } => write_kind_and_fields(
+            out,
+            CallKind::CanForce.into(),
+            &[table, player, gain, within],
+        ),
     }
 }
 

@@ -1,7 +1,7 @@
 // Numbers as bytes, the lowest byte first, at places of bytes.
-ghost use Rattle.std.specs.Prelude.{◌≡◌, ℕ, ◌+◌, ◌%◌, ◌<◌, slice_index, slice_set};
+ghost use Rattle.std.specs.Prelude.{◌≡◌, ℕ, ◌+◌, ◌%◌, ◌<◌, ◌∷◌, slice_index, slice_set};
 ghost use Rattle.wire.specs.Numbers.{number_bytes};
-ghost use Rattle.wire.specs.Fields.{field_at, word_at, fields_bytes, written};
+ghost use Rattle.wire.specs.Fields.{field_at, word_at, fields_bytes, written, room};
 
 // Puts an item at a place, if it is there.
 pub fn put<T: Copy>(items: &mut [T], at: usize, item: T)
@@ -64,4 +64,18 @@ pub fn put_fields(bytes: &mut [u8], at: usize, numbers: &[u32])
     for (i, n) in numbers.iter().enumerate() {
         put_bytes(bytes, at + 4 * i, &n.to_le_bytes());
     }
+}
+
+// Writes a kind's byte and fields at the front, and says how many bytes they are; where they have no room nothing changes.
+pub fn write_kind_and_fields(out: &mut [u8], kind: u8, fields: &[u32]) -> Option<usize>
+    ensures size { result ≡ room 0 (kind ∷ fields_bytes fields.now) out.old }
+    ensures bytes { out.new ≡ written 0 (kind ∷ fields_bytes fields.now) out.old }
+{
+    let size = 1 + 4 * fields.len();
+    if out.len() < size {
+        return None;
+    }
+    out[0] = kind;
+    put_fields(out, 1, fields);
+    Some(size)
 }

@@ -1,7 +1,7 @@
 // The kinds of expressions.
 ghost use Rattle.std.specs.Prelude.{◌≡◌, ◌-◌, ◌<◌, ◌≤◌, MatchResult};
 ghost use Rattle.wire.specs.Exprs.{kind_after};
-ghost use Rattle.wire.specs.Kinds.{kind_number, IsKind};
+ghost use Rattle.wire.specs.Kinds.{kind_number, kind_letters, IsKind};
 
 // By names; as bytes they are the numbers from 0 on.
 #[derive(Clone, Copy, PartialEq, Eq, Debug)]
@@ -21,7 +21,7 @@ pub enum ExprKind {
     If,
 }
 
-// A byte that is no kind, of an expression or of a call.
+// A byte that is no kind, of an expression, a call or an answer.
 #[derive(Clone, Copy, PartialEq, Eq, Debug)]
 pub struct UnknownKind;
 
@@ -88,6 +88,27 @@ impl ExprKind {
         match self {
             ExprKind::Num => 3,
             _ => 1,
+        }
+    }
+
+    // How a kind is written as text; of a number no letters.
+    pub fn word(self) -> &'static [u8]
+        ensures { result.now ≡ kind_letters self }
+    {
+        match self {
+            ExprKind::Num => b"",
+            ExprKind::Cell => b"cell",
+            ExprKind::First => b"first",
+            ExprKind::Second => b"second",
+            ExprKind::Me => b"me",
+            ExprKind::Add => b"+",
+            ExprKind::Sub => b"-",
+            ExprKind::Mul => b"*",
+            ExprKind::Div => b"/",
+            ExprKind::Rem => b"rest",
+            ExprKind::Lt => b"below",
+            ExprKind::Eq => b"same",
+            ExprKind::If => b"if",
         }
     }
 }

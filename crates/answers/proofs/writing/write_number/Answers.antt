@@ -3,4 +3,4 @@ use Rattle.answers.proofs.writing.write_number.Goals as goal
 
 pub returns : goal.returns
 unfolding answer_bytes answer_kind answer_fields
-returns c = c.write_numbers.ensures
+returns c = rw c.into.ensures at c.write_kind_and_fields.ensures
