@@ -3,14 +3,15 @@ use Rattle.std.specs.Prelude.{◌≡◌, ℕ, max, ◌⊎◌, List, Ok, Err, Mat
 use Rattle.rules.specs.declared.Limits.{Limits}
 use Rattle.rules.specs.Calls.{State, Answer, refused, no_calls, answer}
 use Rattle.rules.specs.declared.Call.{Call}
+use Rattle.rules.specs.declared.Refusal.{Refusal}
 use Rattle.wire.specs.Calls.{parse_call}
 use Rattle.text.specs.Endings.{letters}
 use Rattle.text.specs.Grammar.{IsLine, ReadsAs, passed_over}
 use Rattle.text.specs.Reader.{call_of}
 use Rattle.text.specs.Raw.{IsRaw, IsEither}
 use Rattle.text.specs.RawReader.{raw_of}
-use Rattle.commands.specs.declared.lines.Reply.{Reply}
-use Rattle.commands.specs.declared.lines.Reply.TheVariants.{Nothing, NoCall, Refused}
+use Rattle.commands.specs.declared.lines.Line.{Line}
+use Rattle.commands.specs.declared.lines.Line.TheVariants as lines
 
 -- the call that a line stands for: the one that the bytes are which it says, or its own. Where there is none: the place in the bytes that ceases to be a call,
 -- or, of a line that says no bytes either, the larger of the two places
@@ -33,12 +34,12 @@ abbrev pub LineCallMeans : Type 0
 LineCallMeans = (line : List ℕ) → Means line (line_call line)
 
 -- the reply gives this answer
-abbrev pub Gives : Reply → Answer → Type 0
-Gives Nothing a = ⊥
-Gives (NoCall i) a = ⊥
-Gives (Refused x) a = a ≡ refused x
+abbrev pub Gives : Line Refusal → Answer → Type 0
+Gives lines.Nothing a = ⊥
+Gives (lines.NoCall i) a = ⊥
+Gives (lines.Call x) a = a ≡ refused x
 
 -- nothing to a line that is passed over; to one that stands for a call the answer of a server that can do none; else the place
-abbrev pub Replies : Limits → State → List ℕ → Reply → Type 0
+abbrev pub Replies : Limits → State → List ℕ → Line Refusal → Type 0
 Replies l s line r =
-    MatchBool (passed_over (letters line)) (r ≡ Nothing) (MatchResult (line_call (letters line)) (λ c. Gives r (answer no_calls l s c)) (λ i. r ≡ NoCall i))
+    MatchBool (passed_over (letters line)) (r ≡ lines.Nothing) (MatchResult (line_call (letters line)) (λ c. Gives r (answer no_calls l s c)) (λ i. r ≡ lines.NoCall i))

@@ -6,5 +6,5 @@ mod lines;
 mod options;
 
 pub use limits::{TooMany, first_too_many};
-pub use lines::{Reply, line_call_means, reply_to};
+pub use lines::{Line, line_call_means, reply_to};
 pub use options::{Fault, Given, Request, TakesWords, read_request, take_words, word_at};

@@ -1,4 +1,4 @@
-// The answer to one line of a calls file.
+// The lines of a calls file, and the answer to one.
 ghost use Rattle.std.specs.Prelude.{◌≡◌, length};
 ghost use Rattle.rules.specs.declared.Limits.{Limits};
 ghost use Rattle.rules.specs.Calls.{State, no_calls, answer, refused};
@@ -6,14 +6,14 @@ ghost use Rattle.commands.specs.Lines.{line_call, LineCallMeans, Replies};
 
 use rules::{Call, Refusal};
 
-// Three outcomes by names, which an Option of a Result would not have.
+// What a line is, its call told as a T. Three outcomes by names, which an Option of a Result would not have.
 #[derive(Clone, Copy, PartialEq, Eq, Debug)]
-pub enum Reply {
-    // the line is blank or a comment
+pub enum Line<T> {
+    // blank or a comment
     Nothing,
-    // the line is no call: how much of it some call line begins with
+    // no call: how much of it some line of a call begins with
     NoCall(usize),
-    Refused(Refusal),
+    Call(T),
 }
 
 // The answer of a server that can do no call.
@@ -36,16 +36,17 @@ fn read_line(line: &[u8]) -> Result<Call, usize>
     }
 }
 
-pub fn reply_to(line: &[u8]) -> Reply
+// What is answered to a line's call.
+pub fn reply_to(line: &[u8]) -> Line<Refusal>
     ensures { (l : Limits) (s : State) → Replies l s line.now result }
 {
     let letters = text::letters(line);
     if text::is_passed_over(letters) {
-        return Reply::Nothing;
+        return Line::Nothing;
     }
     match read_line(letters) {
-        Ok(call) => Reply::Refused(refuse(call)),
-        Err(place) => Reply::NoCall(place),
+        Ok(call) => Line::Call(refuse(call)),
+        Err(place) => Line::NoCall(place),
     }
 }
 
