@@ -10,6 +10,11 @@ use Rattle.answers.specs.Answers.{moves_fields, answer_kind, answer_fields, answ
 use Rattle.answers.specs.Writing.{list_head, moves_bytes, ListInParts}
 use Rattle.answers.proofs.AnswerBytes.{length_moves}
 
+-- a kind and one number, put by itself
+pub one_written :
+    (old new : List ℕ) (k n : ℕ) → 5 ≤ length old → new ≡ written 1 (number_bytes 4 n) (set old 0 k) → new ≡ written 0 (k ∷ fields_bytes (n ∷ [])) old
+one_written old new k n fits e = after_kind old k (n ∷ []) (first_field (set old 0 k) 1 n e) fits
+
 -- a position
 pub shown_written :
     (old a b d e new cells clocks : List ℕ) (k t u : ℕ) → 17 + 4 * length cells + 4 * length clocks ≤ length old
