@@ -6,7 +6,7 @@ ghost use Rattle.commands.specs.Options.{request_of};
 ghost use Rattle.console.specs.Ends.{refused_words};
 
 use anyhow::anyhow;
-use commands::{Fault, Reply, Request, first_too_many, read_request, reply_to, word_at};
+use commands::{Fault, Line, Request, first_too_many, read_request, reply_to, word_at};
 use rules::{Reason, Refusal};
 use std::fs::File;
 use std::io::{BufRead, BufReader, BufWriter, Write};
@@ -43,11 +43,11 @@ call is answered 'refused 1 at N': the first N bytes of it were right, or the
 first N of the bytes that it says.
 This version reads calls and does none of them yet: each is refused by 2.";
 
-fn show(out: &mut BufWriter<io::Stdout>, reply: Reply) -> io::Result<()> {
+fn show(out: &mut BufWriter<io::Stdout>, reply: Line<Refusal>) -> io::Result<()> {
     match reply {
-        Reply::Nothing => Ok(()),
-        Reply::NoCall(place) => writeln!(out, "refused 1 at {place}"),
-        Reply::Refused(refusal) => writeln!(out, "{refusal}"),
+        Line::Nothing => Ok(()),
+        Line::NoCall(place) => writeln!(out, "refused 1 at {place}"),
+        Line::Call(refusal) => writeln!(out, "{refusal}"),
     }
 }
 

@@ -19,7 +19,7 @@ use Rattle.text.proofs.RawLines.{one_bytes, not_both_sorts, longer_of_both}
 use Rattle.commands.proofs.Meaning.{few_fields, first_tell}
 use Rattle.server_commands.specs.declared.kept.CallBytes.{CallBytes}
 use Rattle.server_commands.specs.Lines.{Says, ReadAsSaid}
-use Rattle.server_commands.specs.declared.lines.Asked.TheVariants as asked
+use Rattle.commands.specs.declared.lines.Line.TheVariants as lines
 
 pub call_few : (c : Call) → length (call_bytes c) ≤ 21
 call_few c = omega (arith, length_call c, few_fields (call_number c))
@@ -48,19 +48,19 @@ BytesRead s r = (said : Result (List ℕ) ℕ) × RawReads s said × Kept said r
 
 -- a line that says bytes
 pub by_bytes :
-    (s : List ℕ) (raw : Raw) (k : CallBytes) → k.bytes ≡ raw.bytes → k.count ≡ min raw.count 22 → BytesRead s (Ok raw) → Says s (asked.Call k)
+    (s : List ℕ) (raw : Raw) (k : CallBytes) → k.bytes ≡ raw.bytes → k.count ≡ min raw.count 22 → BytesRead s (Ok raw) → Says s (lines.Call k)
 by_bytes s raw kept same e h = by_said h.0 h.1 h.2
   where
     by_said :
-        (said : Result (List ℕ) ℕ) → RawReads s said → Kept said (Ok raw) → Says s (asked.Call kept)
+        (said : Result (List ℕ) ℕ) → RawReads s said → Kept said (Ok raw) → Says s (lines.Call kept)
     by_said (Ok bs) is k =
         inr
         (bs, is, (e ∙ omega (arith, k.0, length-take 22 bs), ap (take kept.count) same ∙ kept_part 22 bs raw.bytes raw.count kept.count e k.1))
     by_said (Err m) is k = absurd k
 
 -- one of neither sort
-pub by_neither : (s : List ℕ) (m n r : ℕ) → r ≡ max m n → BytesRead s (Err m) → Reads s (Err n) → Says s (asked.NoCall r)
-by_neither s m n r e h k = subst (λ x. Says s (asked.NoCall x)) (sym e) (longer_of_both s m n (by_said h.0 h.1 h.2) k)
+pub by_neither : (s : List ℕ) (m n r : ℕ) → r ≡ max m n → BytesRead s (Err m) → Reads s (Err n) → Says s (lines.NoCall r)
+by_neither s m n r e h k = subst (λ x. Says s (lines.NoCall x)) (sym e) (longer_of_both s m n (by_said h.0 h.1 h.2) k)
   where
     by_said : (said : Result (List ℕ) ℕ) → RawReads s said → Kept said (Err m) → RawReads s (Err m)
     by_said (Ok bs) is k = absurd k

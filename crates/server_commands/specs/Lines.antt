@@ -6,8 +6,8 @@ use Rattle.text.specs.Endings.{letters}
 use Rattle.text.specs.Grammar.{IsLine, ReadsAs, passed_over}
 use Rattle.text.specs.Raw.{IsRaw, IsEither}
 use Rattle.server_commands.specs.declared.kept.CallBytes.{CallBytes}
-use Rattle.server_commands.specs.declared.lines.Asked.{Asked}
-use Rattle.server_commands.specs.declared.lines.Asked.TheVariants as asked
+use Rattle.commands.specs.declared.lines.Line.{Line}
+use Rattle.commands.specs.declared.lines.Line.TheVariants as lines
 
 -- the bytes that are kept
 abbrev pub held : CallBytes → List ℕ
@@ -19,17 +19,17 @@ Holds bs k = (k.count ≡ length bs) × (held k ≡ bs)
 
 -- what letters ask that are not passed over: the bytes of their call, or the first 22 of the bytes that they say; or, of a line of neither sort, nothing but the
 -- length of its longest front that some line of either sort begins with
-abbrev pub Says : List ℕ → Asked → Type 0
-Says s asked.Nothing = ⊥
-Says s (asked.NoCall n) = ReadsAs IsEither s (Err n)
-Says s (asked.Call k) = ((c : Call) × IsLine c s × Holds (call_bytes c) k) ⊎ ((bs : List ℕ) × IsRaw bs s × Holds (take 22 bs) k)
+abbrev pub Says : List ℕ → Line CallBytes → Type 0
+Says s lines.Nothing = ⊥
+Says s (lines.NoCall n) = ReadsAs IsEither s (Err n)
+Says s (lines.Call k) = ((c : Call) × IsLine c s × Holds (call_bytes c) k) ⊎ ((bs : List ℕ) × IsRaw bs s × Holds (take 22 bs) k)
 
 -- what a line asks: nothing if it is passed over
-abbrev pub Asks : List ℕ → Asked → Type 0
-Asks line r = MatchBool (passed_over (letters line)) (r ≡ asked.Nothing) (Says (letters line) r)
+abbrev pub Asks : List ℕ → Line CallBytes → Type 0
+Asks line r = MatchBool (passed_over (letters line)) (r ≡ lines.Nothing) (Says (letters line) r)
 
 -- what is kept of a line is read as the line's call, or as the bytes are that the line says
 abbrev pub ReadAsSaid : Type 0
 ReadAsSaid =
-    (s : List ℕ) (k : CallBytes) → Says s (asked.Call k)
+    (s : List ℕ) (k : CallBytes) → Says s (lines.Call k)
     → ((c : Call) → IsLine c s → parse_call (held k) ≡ Ok c) × ((bs : List ℕ) → IsRaw bs s → parse_call (held k) ≡ parse_call bs)

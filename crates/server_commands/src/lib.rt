@@ -5,7 +5,7 @@ mod kept;
 mod lines;
 mod options;
 
-pub use commands::Fault;
+pub use commands::{Fault, Line};
 pub use kept::CallBytes;
-pub use lines::{Asked, kept_is_read_as_said, read_line};
+pub use lines::{kept_is_read_as_said, read_line};
 pub use options::{Request, read_request};

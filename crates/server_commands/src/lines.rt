@@ -4,18 +4,9 @@ ghost use Rattle.wire.specs.Calls.{call_bytes};
 ghost use Rattle.server_commands.specs.Lines.{Holds, Says, Asks, ReadAsSaid};
 
 use super::kept::CallBytes;
+use commands::Line;
 use rules::Call;
 use text::MOST_KEPT;
-
-// Three outcomes by names, which an Option of a Result would not have.
-#[derive(Clone, Copy)]
-pub enum Asked {
-    // the line is blank or a comment
-    Nothing,
-    // the line is neither the line of a call nor says bytes: how much of it some such line begins with
-    NoCall(usize),
-    Call(CallBytes),
-}
 
 // The bytes of a call, kept.
 fn keep_call(call: Call) -> CallBytes
@@ -27,29 +18,29 @@ fn keep_call(call: Call) -> CallBytes
 }
 
 // What letters say that are not passed over: bytes, or a call by its words.
-fn read_letters(letters: &[u8]) -> Asked
+fn read_letters(letters: &[u8]) -> Line<CallBytes>
     ensures { Says letters.now result }
 {
     match text::read_bytes(letters) {
         Ok(raw) => {
             let bytes = raw.bytes;
             let count = raw.count.min(MOST_KEPT);
-            Asked::Call(CallBytes { bytes, count })
+            Line::Call(CallBytes { bytes, count })
         }
         Err(i) => match text::read_call(letters) {
-            Ok(call) => Asked::Call(keep_call(call)),
-            Err(j) => Asked::NoCall(i.max(j)),
+            Ok(call) => Line::Call(keep_call(call)),
+            Err(j) => Line::NoCall(i.max(j)),
         },
     }
 }
 
 // What a line asks, which may still have its LF or CR LF at the end.
-pub fn read_line(line: &[u8]) -> Asked
+pub fn read_line(line: &[u8]) -> Line<CallBytes>
     ensures { Asks line.now result }
 {
     let letters = text::letters(line);
     if text::is_passed_over(letters) {
-        return Asked::Nothing;
+        return Line::Nothing;
     }
     read_letters(letters)
 }

@@ -11,7 +11,7 @@ use commands::{Fault, first_too_many, word_at};
 use games::{fail, open_game, refuse, show_game, write_game};
 use printing::print_answer;
 use rules::{Limits, Reason};
-use server_commands::{Asked, Request, read_line, read_request};
+use server_commands::{Line, Request, read_line, read_request};
 use session::{call, needs, open};
 use std::fs::File;
 use std::io;
@@ -108,9 +108,9 @@ fn answer_line(
     out: &mut BufWriter<io::Stdout>,
 ) -> io::Result<()> {
     match read_line(line) {
-        Asked::Nothing => Ok(()),
-        Asked::NoCall(place) => writeln!(out, "refused 1 at {place}"),
-        Asked::Call(asked) => answer_call(server, asked.as_slice(), out),
+        Line::Nothing => Ok(()),
+        Line::NoCall(place) => writeln!(out, "refused 1 at {place}"),
+        Line::Call(asked) => answer_call(server, asked.as_slice(), out),
     }
 }
 

@@ -4,7 +4,7 @@
 #[cfg(test)]
 mod tests {
     use rules::Limits;
-    use server_commands::{Asked, Fault, Request, read_line, read_request};
+    use server_commands::{Fault, Line, Request, read_line, read_request};
     use std::alloc::{AllocError, Global};
     use std::test::Fail;
 
@@ -18,13 +18,13 @@ mod tests {
     }
 
     fn asks_nothing(line: &[u8]) -> bool {
-        matches!(read_line(line), Asked::Nothing)
+        matches!(read_line(line), Line::Nothing)
     }
 
     // How much of a line that is no call is right.
     fn no_call(line: &[u8]) -> Option<usize> {
         match read_line(line) {
-            Asked::NoCall(n) => Some(n),
+            Line::NoCall(n) => Some(n),
             _ => None,
         }
     }
@@ -32,7 +32,7 @@ mod tests {
     // Whether a line asks the call of just these bytes.
     fn asks(line: &[u8], bytes: &[u8]) -> bool {
         match read_line(line) {
-            Asked::Call(kept) => kept.as_slice() == bytes,
+            Line::Call(kept) => kept.as_slice() == bytes,
             _ => false,
         }
     }

@@ -3,7 +3,7 @@
 
 #[cfg(test)]
 mod tests {
-    use commands::{Fault, Reply, Request, read_request, reply_to};
+    use commands::{Fault, Line, Request, read_request, reply_to};
     use rules::{Call, Limits, Move, Refusal};
     use std::alloc::{AllocError, Global};
     use std::test::Fail;
@@ -83,19 +83,19 @@ mod tests {
         assert!(rt; is_passed_over(b"  #"));
         assert!(rt; !is_passed_over(b"sit 0 # no comment"));
         assert!(rt; !is_passed_over(b"\xff"));
-        assert_eq!(rt; reply_to(b"\n"), Reply::Nothing);
-        assert_eq!(rt; reply_to(b"\r\n"), Reply::Nothing);
-        assert_eq!(rt; reply_to(b"# note\r\n"), Reply::Nothing);
+        assert_eq!(rt; reply_to(b"\n"), Line::Nothing);
+        assert_eq!(rt; reply_to(b"\r\n"), Line::Nothing);
+        assert_eq!(rt; reply_to(b"# note\r\n"), Line::Nothing);
     }
 
     #[test]
     fn replies(rt: HostRuntime) {
         // by the numbers that are told
-        let cannot = Reply::Refused(Refusal {
+        let cannot = Line::Call(Refusal {
             number: 2,
             place: 0,
         });
-        let too_deep = Reply::Refused(Refusal {
+        let too_deep = Line::Call(Refusal {
             number: 2,
             place: 3,
         });
@@ -104,18 +104,18 @@ mod tests {
         assert_eq!(rt; reply_to(b"sit 0"), cannot);
         assert_eq!(rt; reply_to(b"can force 0 0 0 64\n"), cannot);
         assert_eq!(rt; reply_to(b"can force 0 0 0 65\n"), too_deep);
-        assert_eq!(rt; reply_to(b"sit 0\r\r\n"), Reply::NoCall(5));
-        assert_eq!(rt; reply_to(b"\r\r\n"), Reply::NoCall(0));
+        assert_eq!(rt; reply_to(b"sit 0\r\r\n"), Line::NoCall(5));
+        assert_eq!(rt; reply_to(b"\r\r\n"), Line::NoCall(0));
         assert_eq!(rt; reply_to(b"sit 0 \n"), cannot);
     }
 
     #[test]
     fn lines_of_bytes(rt: HostRuntime) {
-        let cannot = Reply::Refused(Refusal {
+        let cannot = Line::Call(Refusal {
             number: 2,
             place: 0,
         });
-        let too_deep = Reply::Refused(Refusal {
+        let too_deep = Line::Call(Refusal {
             number: 2,
             place: 3,
         });
@@ -124,25 +124,25 @@ mod tests {
             reply_to(b" bytes\t06 00 00 00 00 00 00 00 00 00 00 00 00 41 00 00 00 \r\n"),
             too_deep
         );
-        assert_eq!(rt; reply_to(b"bytes"), Reply::NoCall(0));
-        assert_eq!(rt; reply_to(b"bytes 07"), Reply::NoCall(0));
-        assert_eq!(rt; reply_to(b"bytes  FF"), Reply::NoCall(0));
-        assert_eq!(rt; reply_to(b"bytes 03 00"), Reply::NoCall(2));
-        assert_eq!(rt; reply_to(b"bytes 00 01 00 00 00 09"), Reply::NoCall(5));
-        assert_eq!(rt; reply_to(b"bytes 0"), Reply::NoCall(7));
-        assert_eq!(rt; reply_to(b"bytes 0g"), Reply::NoCall(7));
-        assert_eq!(rt; reply_to(b"bytes 000"), Reply::NoCall(8));
-        assert_eq!(rt; reply_to(b"byte"), Reply::NoCall(4));
+        assert_eq!(rt; reply_to(b"bytes"), Line::NoCall(0));
+        assert_eq!(rt; reply_to(b"bytes 07"), Line::NoCall(0));
+        assert_eq!(rt; reply_to(b"bytes  FF"), Line::NoCall(0));
+        assert_eq!(rt; reply_to(b"bytes 03 00"), Line::NoCall(2));
+        assert_eq!(rt; reply_to(b"bytes 00 01 00 00 00 09"), Line::NoCall(5));
+        assert_eq!(rt; reply_to(b"bytes 0"), Line::NoCall(7));
+        assert_eq!(rt; reply_to(b"bytes 0g"), Line::NoCall(7));
+        assert_eq!(rt; reply_to(b"bytes 000"), Line::NoCall(8));
+        assert_eq!(rt; reply_to(b"byte"), Line::NoCall(4));
     }
 
     // One byte more than any call has, and then more than are kept.
     #[test]
     fn long_lines_of_bytes(rt: HostRuntime) {
         let long = b"bytes 01 00 00 00 00 00 00 00 00 00 00 00 00 00 00 00 00 00 00 00 00 aF";
-        assert_eq!(rt; reply_to(long), Reply::NoCall(21));
+        assert_eq!(rt; reply_to(long), Line::NoCall(21));
         let longer =
             b"bytes 01 00 00 00 00 00 00 00 00 00 00 00 00 00 00 00 00 00 00 00 00 00 00 Fe";
-        assert_eq!(rt; reply_to(longer), Reply::NoCall(21));
+        assert_eq!(rt; reply_to(longer), Line::NoCall(21));
     }
 
     // What the words of a line ask for.
