@@ -20,7 +20,7 @@ impl Writer<'_> {
         self.at = self.at.saturating_add(1);
     }
 
-    pub fn word(&mut self, word: &[u8])
+    pub(super) fn word(&mut self, word: &[u8])
         ensures { Wrote self.old word.now self.new }
     {
         for b in word {
@@ -29,7 +29,7 @@ impl Writer<'_> {
     }
 
     // A number in decimal digits.
-    pub fn decimal(&mut self, n: u32)
+    pub(super) fn decimal(&mut self, n: u32)
         ensures { Wrote self.old (decimal n) self.new }
     {
         let mut digits = Buffer::new();
@@ -37,7 +37,7 @@ impl Writer<'_> {
     }
 
     // A blank and a number.
-    pub fn number(&mut self, n: u32)
+    pub(super) fn number(&mut self, n: u32)
         ensures { Wrote self.old (32 ∷ decimal n) self.new }
     {
         self.byte(b' ');

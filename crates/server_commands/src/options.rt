@@ -102,7 +102,8 @@ impl Given {
         }
     }
 
-    // What is asked for once all words are taken.
+    // What is asked for once all words are taken. Help, a missing number and no game are told apart as in `commands`, whose request is another:
+    // a method for both would answer a fault, no game or a game, and be no plainer.
     fn asked(self) -> Result<Request, Fault>
         ensures { result ≡ asked self }
     {
