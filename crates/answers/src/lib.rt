@@ -9,6 +9,7 @@ ghost use Rattle.answers.specs.Answers.{AnswerReadsBack, AnswerWritesBack};
 ghost use Rattle.answers.specs.Writing.{ListInParts};
 ghost use Rattle.answers.specs.Size.{AnswersFit, AllAnswersFit};
 
+pub use kinds::AnswerKind;
 pub use reading::{read_answer, read_move};
 use rules::Refusal;
 pub use writing::{

@@ -8,7 +8,7 @@ ghost use Rattle.eval.specs.Memory.{kind_of, row_of, row_at, expr_within, expr_a
 ghost use Rattle.eval.specs.Load.{LoadsExpr, LoadsWithin, BeginsAs, Ended};
 ghost use Rattle.eval.specs.declared.LoadError.TheVariants.{Unreadable};
 
-use wire::{ExprKind, UnknownKind, two_bytes};
+use wire::{ExprKind, MOST_LEVELS, UnknownKind, two_bytes};
 
 // A row of an expression: its kind, and its operands, which are a number or the places of its parts.
 #[derive(Clone, Copy)]
@@ -31,9 +31,6 @@ struct Evaluator<'a> {
 
 // The largest number in a game.
 const MOST: u32 = 65535;
-
-// An expression is at most 32 deep: it has a level more than that.
-const LEVELS: u32 = 33;
 
 // What stands at `i`, or 0 past the end.
 pub fn word_at(words: &[u32], i: usize) -> u32
@@ -167,7 +164,7 @@ pub fn eval(rules: &[u32], at: u32, cells: &[u32], first: u32, second: u32, me: 
         second,
         me,
     };
-    evaluator.value(at, LEVELS)
+    evaluator.value(at, MOST_LEVELS)
 }
 
 // An expression that was loaded: how many bytes it took, and where its row is, the last of its rows.
@@ -252,5 +249,5 @@ fn load_within(bytes: &[u8], levels: u32, rules: &mut [u32], at: u32) -> Result<
 pub fn load_expr(bytes: &[u8], rules: &mut [u32], at: u32) -> Result<Loaded, LoadError>
     ensures { LoadsExpr bytes.now at rules.old rules.new result }
 {
-    load_within(bytes, LEVELS, rules, at)
+    load_within(bytes, MOST_LEVELS, rules, at)
 }

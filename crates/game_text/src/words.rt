@@ -41,7 +41,8 @@ fn spelling(word: Word) -> &'static [u8]
     }
 }
 
-// The piece is a front of the word or, if the whole word is asked for, the word.
+// The piece is a front of the word or, if the whole word is asked for, the word. A flag, since of a closure in its place each contract
+// would have to say what it tests.
 fn fits(piece: &[u8], word: &[u8], whole: bool) -> bool
     ensures { result ≡ agrees whole piece.now word.now }
 {

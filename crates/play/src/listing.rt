@@ -10,15 +10,12 @@ ghost use Rattle.play.specs.Listing.{part_listed, Lists};
 
 use crate::moves::turn;
 use crate::position::{Position, Rule};
-use answers::write_move;
+use answers::{AnswerKind, write_move};
 use rows::read_game;
 use rules::Move;
 use wire::put_field;
 
-// Not by `write_list_head`, since there may be more moves than four bytes can count.
-// The kind of a list in an answer, and how many bytes stand before its moves.
-const LIST: u8 = 3;
-
+// How many bytes stand before the moves of a list.
 const HEAD: usize = 5;
 
 const MOVE_BYTES: usize = 12;
@@ -76,7 +73,7 @@ fn list_rules(rules: &[u32], cells: &[u32], answer: &mut [u8]) -> Option<usize>
 }
 
 // All legal moves, in their order; says how many bytes it wrote. None where they have no room: those that have are then written, and no count.
-// The count is written last, when it is known.
+// The count is written last, when it is known, and not by `write_list_head`, since there may be more moves than four bytes can count.
 pub fn list_moves(rules: &[u32], cells: &[u32], answer: &mut [u8]) -> Option<usize>
     ensures size { result ≡ room 0 (answer_bytes (listed (legal_moves (game_at rules.now) cells.now))) answer.old }
     ensures bytes { OnSome result (answer.new ≡
@@ -87,7 +84,7 @@ pub fn list_moves(rules: &[u32], cells: &[u32], answer: &mut [u8]) -> Option<usi
         return None;
     }
     let count = list_rules(rules, cells, answer)?;
-    answer[0] = LIST;
+    answer[0] = AnswerKind::Listed.into();
     put_field(answer, 1, count);
     Some(HEAD + MOVE_BYTES * count)
 }

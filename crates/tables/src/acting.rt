@@ -14,7 +14,8 @@ use rules::{Move, Reason, Refusal};
 use wire::put;
 
 // Places and not slices, since what a theorem says of a table it says of any state, one that is about to be written too.
-// Where a table's record stands, with the sizes of its game, and what is kept there of its end and of how many moves were played.
+// Where a table's record stands, with the sizes of its game, and what is kept there
+// of its end, which is a word like any in memory, and of how many moves were played.
 #[derive(Clone, Copy)]
 pub struct Seat {
     pub at: usize,
@@ -75,11 +76,7 @@ impl Server {
             (λ r. (self.now.plan.seated < self.now.plan.tables) × (r.server.plan ≡ self.now.plan)
             × (r.at ≡ record_place self.now.plan.cells self.now.plan.seated)) }
     {
-        if self.plan.seated < self.plan.tables {
-            Some(self.record(self.plan.seated))
-        } else {
-            None
-        }
+        (self.plan.seated < self.plan.tables).then(|| self.record(self.plan.seated))
     }
 
     // A table's record.
@@ -88,11 +85,7 @@ impl Server {
             (λ r. (table < self.now.plan.seated) × (r.server.plan ≡ self.now.plan) × (r.at ≡ record_place self.now.plan.cells table)) }
     {
         let t = table as usize;
-        if t < self.plan.seated {
-            Some(self.record(t))
-        } else {
-            None
-        }
+        (t < self.plan.seated).then(|| self.record(t))
     }
 
     // The place for a new entry.
@@ -107,11 +100,7 @@ impl Server {
             played,
             ..
         } = self.plan;
-        if played < moves {
-            Some(HEADER + tables * (cells + RECORD) + ENTRY * played)
-        } else {
-            None
-        }
+        (played < moves).then(|| HEADER + tables * (cells + RECORD) + ENTRY * played)
     }
 }
 

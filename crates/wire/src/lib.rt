@@ -17,3 +17,4 @@ pub use fields::{
 };
 pub use games::{GameSize, check_game, game_reads_back, game_writes_back, good_games_fit};
 pub use kinds::{ExprKind, UnknownKind};
+pub use walks::MOST_LEVELS;

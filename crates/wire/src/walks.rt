@@ -9,7 +9,7 @@ use super::kinds::ExprKind;
 use std::ops::Add;
 
 // An expression is at most 32 deep: it has a level more than that.
-const MOST_LEVELS: u32 = 33;
+pub const MOST_LEVELS: u32 = 33;
 
 const MOST_BOUND: usize = 256;
 

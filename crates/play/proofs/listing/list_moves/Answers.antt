@@ -23,6 +23,6 @@ returns-in_err-count-clause-part c =
 pub returns : goal.returns
 returns c = record {
   size = all_fits c.args.answer.now (legal_moves (game_at c.args.rules.now) c.args.cells.now) c.in_ok-count.ensures;
-  bytes = all_written c.args.answer.now (legal_moves (game_at c.args.rules.now) c.args.cells.now) c.in_ok-count.ensures c.put_field.ensures;
+  bytes = all_written c.args.answer.now (legal_moves (game_at c.args.rules.now) c.args.cells.now) c.in_ok-count.ensures (rw c.into.ensures at c.put_field.ensures);
   part = tt;
 }
