@@ -131,7 +131,7 @@ unfolding answer_fields fields_at
 listed_fields bs = λ j. length_moves_at bs (field_at bs 1) 5 j ∷ moves_fields_at bs (field_at bs 1) 5 j
 
 -- what was read, and that there are just so many bytes
-whole_some : (bs : List ℕ) (n : ℕ) (x a : Answer) → whole bs n x ≡ Some a → (length bs ≡ n) × (x ≡ a)
+pub whole_some : (bs : List ℕ) (n : ℕ) (x a : Answer) → whole bs n x ≡ Some a → (length bs ≡ n) × (x ≡ a)
 whole_some bs n x a e =
     ⊎_elim (λ t. let w = cond-true (eqb (length bs) n) (Some x) None t in (eqb-true (length bs) n t, (cc)))
     (λ f. let w = cond-false (eqb (length bs) n) (Some x) None f in let z : ◌≡◌ {A = ℕ} 0 1 = cc in absurd (omega arith)) (cases_Bool (eqb (length bs) n))

@@ -1,4 +1,4 @@
--- What is read as a reply is what is read as an answer.
+-- What is read as parts is what is read as an answer.
 use Rattle.std.proofs.Common.{◌≡◌, ℕ, zero, suc, ◌+◌, ◌-◌, ◌*◌, ◌/◌, ◌<◌, ◌≤◌, eqb, true, false, List, [], ◌∷◌, length, take, drop, Some, None, Option, cond, Result, Ok, Err, sym, refl, add-zero, ap, ap₂, ◌∙◌, arith}
 use Rattle.std.specs.Bool.{then_some}
 use Rattle.std.specs.Int.{w32, from_le_bytes}
@@ -12,16 +12,16 @@ use Rattle.wire.specs.Numbers.{bytes_value}
 use Rattle.wire.specs.Fields.{field_at, fields_at}
 use Rattle.answers.specs.declared.kinds.AnswerKind.{AnswerKind}
 use Rattle.wire.specs.declared.kinds.UnknownKind.{UnknownKind}
-use Rattle.answers.specs.declared.Reply.{Reply}
+use Rattle.answers.specs.declared.Parts.{Parts}
 use Rattle.answers.specs.Answers.{moves_at, whole, parse_as, parse_answer}
 use Rattle.answers.specs.Kinds.{kind_number, IsKind}
-use Rattle.answers.specs.Reading.{numbers_in, move_in, moves_in, answer_of, answer_read}
+use Rattle.answers.specs.Parts.{numbers_in, move_in, moves_in, parts_answer, parts_read}
 
--- a reply that is made just of as many bytes as it wants
-pub read_whole : (bs : List ℕ) (n : ℕ) (x : Reply) {r : Option Reply} → r ≡ then_some (eqb (length bs) n) x → answer_read r ≡ whole bs n (answer_of x)
+-- parts that are made just of as many bytes as they want
+pub read_whole : (bs : List ℕ) (n : ℕ) (x : Parts) {r : Option Parts} → r ≡ then_some (eqb (length bs) n) x → parts_read r ≡ whole bs n (parts_answer x)
 read_whole bs n x {r} is =
-    ap answer_read is
-    ∙ elim (eqb (length bs) n) as (λ b. answer_read (then_some b x) ≡ cond b (Some (answer_of x)) None) [ true ↦ refl | false ↦ refl ]
+    ap parts_read is
+    ∙ elim (eqb (length bs) n) as (λ b. parts_read (then_some b x) ≡ cond b (Some (parts_answer x)) None) [ true ↦ refl | false ↦ refl ]
 
 -- the numbers in the four bytes each, and the moves in the twelve, that stand from place i on
 four : (xs : List ℕ) → from_le_bytes w32 (take 4 xs) ≡ bytes_value (take 4 xs)

@@ -3,3 +3,4 @@ pub mod Kinds
 pub mod Size
 pub mod Writing
 pub mod Reading
+pub mod Parts

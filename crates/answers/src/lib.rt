@@ -10,15 +10,39 @@ ghost use Rattle.answers.specs.Writing.{ListInParts};
 ghost use Rattle.answers.specs.Size.{AnswersFit, AllAnswersFit};
 
 pub use kinds::AnswerKind;
-pub use reading::{read_answer, read_move};
+pub use reading::{read_answer, read_move, read_parts};
 use rules::Refusal;
 pub use writing::{
     write_forced, write_list_head, write_move, write_number, write_refusal, write_shown,
 };
 
-// An answer that was read from bytes: numbers have four of them each, moves twelve.
+// Where numbers or moves stand in bytes: the place of the first, and how many they are.
 #[derive(Clone, Copy)]
-pub enum Reply<'a> {
+pub struct Row {
+    pub at: usize,
+    pub count: usize,
+}
+
+// An answer that was read from bytes, by places in them: it lets the bytes go, so they may be written again while it is kept. Cells and
+// clocks have four bytes each, moves twelve.
+#[derive(Clone, Copy)]
+pub enum Reply {
+    Refused(Refusal),
+    Number(u32),
+    Shown {
+        cells: Row,
+        turn: u32,
+        end: u32,
+        clocks: Row,
+    },
+    Listed(Row),
+    Forced(u32),
+}
+
+// An answer that was read from bytes, as parts of them: it borrows the bytes and hands on slices, so nobody has to look up a place. Numbers
+// have four bytes each, moves twelve.
+#[derive(Clone, Copy)]
+pub enum Parts<'a> {
     Refused(Refusal),
     Number(u32),
     Shown {

@@ -1,8 +1,10 @@
 -- Bytes beside words: where they agree, and which word is found.
-use Rattle.std.proofs.Common.{◌≡◌, ℕ, Bool, true, false, not, ◌&&◌, ◌||◌, eqb, List, [], ◌∷◌, length, inl, inr, sym, refl, ap}
+use Rattle.std.proofs.Common.{◌≡◌, ℕ, Bool, true, false, not, ◌&&◌, ◌||◌, eqb, List, [], ◌∷◌, All, length, map, inl, inr, sym, refl, ap}
 use Rattle.std.specs.List.{find, starts_with}
+use Rattle.std.specs.Option.{option_map}
+use Rattle.std.proofs.lemmas.List.Elements.{All-head, All-tail}
 use Rattle.std.proofs.lemmas.Bool.{and_left, cases_Bool}
-use Rattle.game_text.specs.declared.progress.Word.{Word}
+use Rattle.game_text.specs.declared.words.Spelled.{Spelled}
 use Rattle.game_text.specs.Machine.{is_front, agrees, look, spelling}
 
 -- a front, as the library tests it
@@ -21,11 +23,17 @@ pub agrees_by : (whole : Bool) (l w : List ℕ) → is_front l w ≡ true → (n
 unfolding agrees
 agrees_by whole l w e = ap (λ t. t && (not whole || eqb (length l) (length w))) (sym e)
 
--- the first word that agrees, as the library finds it
-pub look_found : (whole : Bool) (ws : List Word) (l : List ℕ) → find (λ w. agrees whole l (spelling w)) ws ≡ look whole ws l
-look_found whole [] l = refl
-look_found whole (w ∷ ws) l =
-    elim (cases_Bool (agrees whole l (spelling w))) [
-      | inl e ↦ rw e refl
-      | inr e ↦ rw e (look_found whole ws l)
+-- the letters beside a word are how it is written
+abbrev IsSpelled : Spelled → Type 0
+IsSpelled s = s.letters.now ≡ spelling s.word
+
+-- the first word that agrees, as the library finds it by the letters
+pub look_found : (whole : Bool) (ss : List Spelled) (l : List ℕ) → All IsSpelled ss
+    → option_map (λ s. s.word) (find (λ s. agrees whole l s.letters.now) ss) ≡ look whole (map (λ s. s.word) ss) l
+look_found whole [] l a = refl
+look_found whole (s ∷ ss) l a =
+    let e : s.letters.now ≡ spelling s.word = All-head IsSpelled s ss a in
+    rw e elim (cases_Bool (agrees whole l (spelling s.word))) [
+      | inl t ↦ rw t refl
+      | inr t ↦ rw t (look_found whole ss l (All-tail IsSpelled s ss a))
     ]

@@ -33,7 +33,10 @@ pub fn read_game(text: &[u8], out: &mut [u8]) -> Result<usize, Fault>
 {
     let mut m = START;
     for i in 0..text.len() {
-        m = advance(text, i, m, out).ok_or(fault(i, m.at))?;
+        let Some(next) = advance(text, i, m, out) else {
+            return Err(fault(i, m.at));
+        };
+        m = next;
     }
     let end = text.len();
     let p = settle(text, end, m.token, m.at, out).ok_or(fault(end, m.at))?;

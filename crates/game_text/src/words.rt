@@ -1,5 +1,5 @@
 // The words that may come next, and how bytes agree with them.
-ghost use Rattle.std.specs.Prelude.{◌≡◌};
+ghost use Rattle.std.specs.Prelude.{◌≡◌, map, All};
 ghost use Rattle.game_text.specs.Machine.{agrees, look, spelling, awaited, bound, expecting};
 
 use super::progress::{Expected, Progress, Stage, Word};
@@ -10,36 +10,99 @@ const MOST: u8 = 255;
 
 const MOST_CELLS: u16 = 65535;
 
-const KIND_WORDS: [Word; 12] = [
-    Word::Kind(ExprKind::Cell),
-    Word::Kind(ExprKind::First),
-    Word::Kind(ExprKind::Second),
-    Word::Kind(ExprKind::Me),
-    Word::Kind(ExprKind::Add),
-    Word::Kind(ExprKind::Sub),
-    Word::Kind(ExprKind::Mul),
-    Word::Kind(ExprKind::Div),
-    Word::Kind(ExprKind::Rem),
-    Word::Kind(ExprKind::Lt),
-    Word::Kind(ExprKind::Eq),
-    Word::Kind(ExprKind::If),
-];
-
-// How a word is written; a number has no letters.
-fn spelling(word: Word) -> &'static [u8]
-    ensures { result.now ≡ spelling word }
-{
-    match word {
-        Word::Players => b"players",
-        Word::Cells => b"cells",
-        Word::Rule => b"rule",
-        Word::May => b"may",
-        Word::Set => b"set",
-        Word::Over => b"over",
-        Word::Gain => b"gain",
-        Word::Kind(kind) => kind.word(),
-    }
+// A word and how it is written. The letters stand beside the words in tables, since at each byte the words that may come next are gone
+// through, and to spell each of them anew takes longer than to compare it.
+#[derive(Clone, Copy)]
+struct Spelled {
+    word: Word,
+    letters: &'static [u8],
 }
+
+const PLAYERS: Spelled = Spelled {
+    word: Word::Players,
+    letters: b"players",
+};
+
+const CELLS: Spelled = Spelled {
+    word: Word::Cells,
+    letters: b"cells",
+};
+
+const RULE: Spelled = Spelled {
+    word: Word::Rule,
+    letters: b"rule",
+};
+
+const MAY: Spelled = Spelled {
+    word: Word::May,
+    letters: b"may",
+};
+
+const SET: Spelled = Spelled {
+    word: Word::Set,
+    letters: b"set",
+};
+
+const OVER: Spelled = Spelled {
+    word: Word::Over,
+    letters: b"over",
+};
+
+const GAIN: Spelled = Spelled {
+    word: Word::Gain,
+    letters: b"gain",
+};
+
+const KIND_WORDS: [Spelled; 12] = [
+    Spelled {
+        word: Word::Kind(ExprKind::Cell),
+        letters: b"cell",
+    },
+    Spelled {
+        word: Word::Kind(ExprKind::First),
+        letters: b"first",
+    },
+    Spelled {
+        word: Word::Kind(ExprKind::Second),
+        letters: b"second",
+    },
+    Spelled {
+        word: Word::Kind(ExprKind::Me),
+        letters: b"me",
+    },
+    Spelled {
+        word: Word::Kind(ExprKind::Add),
+        letters: b"+",
+    },
+    Spelled {
+        word: Word::Kind(ExprKind::Sub),
+        letters: b"-",
+    },
+    Spelled {
+        word: Word::Kind(ExprKind::Mul),
+        letters: b"*",
+    },
+    Spelled {
+        word: Word::Kind(ExprKind::Div),
+        letters: b"/",
+    },
+    Spelled {
+        word: Word::Kind(ExprKind::Rem),
+        letters: b"rest",
+    },
+    Spelled {
+        word: Word::Kind(ExprKind::Lt),
+        letters: b"below",
+    },
+    Spelled {
+        word: Word::Kind(ExprKind::Eq),
+        letters: b"same",
+    },
+    Spelled {
+        word: Word::Kind(ExprKind::If),
+        letters: b"if",
+    },
+];
 
 // The piece is a front of the word or, if the whole word is asked for, the word. A flag, since of a closure in its place each contract
 // would have to say what it tests.
@@ -50,22 +113,23 @@ fn fits(piece: &[u8], word: &[u8], whole: bool) -> bool
 }
 
 // The words that may come next.
-fn awaited(p: Progress) -> &'static [Word]
-    ensures { result.now ≡ awaited p.stage p }
+fn awaited(p: Progress) -> &'static [Spelled]
+    ensures words { map (λ s. s.word) result.now ≡ awaited p.stage p }
+    ensures letters { All (λ s. s.letters.now ≡ spelling s.word) result.now }
 {
     match p.stage {
-        Stage::PlayersWord => &[Word::Players],
-        Stage::CellsWord => &[Word::Cells],
-        Stage::MayWord => &[Word::May],
-        Stage::GainWord => &[Word::Gain],
+        Stage::PlayersWord => &[PLAYERS],
+        Stage::CellsWord => &[CELLS],
+        Stage::MayWord => &[MAY],
+        Stage::GainWord => &[GAIN],
         Stage::Expr => &KIND_WORDS,
-        Stage::Values if p.rules < MOST => &[Word::Rule, Word::Over],
-        Stage::Values => &[Word::Over],
+        Stage::Values if p.rules < MOST => &[RULE, OVER],
+        Stage::Values => &[OVER],
         Stage::Sets => match (p.sets < MOST, p.rules < MOST) {
-            (true, true) => &[Word::Set, Word::Rule, Word::Over],
-            (true, false) => &[Word::Set, Word::Over],
-            (false, true) => &[Word::Rule, Word::Over],
-            (false, false) => &[Word::Over],
+            (true, true) => &[SET, RULE, OVER],
+            (true, false) => &[SET, OVER],
+            (false, true) => &[RULE, OVER],
+            (false, false) => &[OVER],
         },
         _ => &[],
     }
@@ -77,8 +141,8 @@ pub(super) fn find_word(p: Progress, piece: &[u8], whole: bool) -> Option<Word>
 {
     awaited(p)
         .iter()
-        .copied()
-        .find(|word| fits(piece, spelling(*word), whole))
+        .find(|spelled| fits(piece, spelled.letters, whole))
+        .map(|spelled| spelled.word)
 }
 
 // Below what a number that comes next must be; 0 if none may come.

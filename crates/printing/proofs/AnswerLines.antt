@@ -6,8 +6,8 @@ use Rattle.std.proofs.lemmas.List.{take_more, map-append, nil_from_length}
 use Rattle.rules.specs.Calls.{Answer, refused, number, shown, listed, forced}
 use Rattle.rules.specs.declared.Refusal.{Refusal}
 use Rattle.rules.specs.declared.Move.{Move}
-use Rattle.answers.specs.declared.Reply.{Reply}
-use Rattle.answers.specs.Reading.{numbers_in, move_in, moves_in, answer_of}
+use Rattle.answers.specs.declared.Parts.{Parts}
+use Rattle.answers.specs.Parts.{numbers_in, move_in, moves_in, parts_answer}
 use Rattle.game_text.specs.Text.{number_pieces}
 use Rattle.printing.specs.declared.writer.Writer.{Writer}
 use Rattle.printing.specs.Games.{numbers_text, spaced}
@@ -113,8 +113,8 @@ pub listed_put : {a b : Writer} (vs : List Move) → Wrote a (moves_text vs) b �
 unfolding answer_text
 listed_put vs h = h
 
-pub reply_put : {a b : Writer} (r s : Reply) → r ≡ s → Wrote a (answer_text (answer_of s)) b → Wrote a (answer_text (answer_of r)) b
-reply_put {a} {b} r s e h = subst (λ x. Wrote a (answer_text (answer_of x)) b) (sym e) h
+pub reply_put : {a b : Writer} (r s : Parts) → r ≡ s → Wrote a (answer_text (parts_answer s)) b → Wrote a (answer_text (parts_answer r)) b
+reply_put {a} {b} r s e h = subst (λ x. Wrote a (answer_text (parts_answer x)) b) (sym e) h
 
 -- what printing an answer's bytes answers
 pub answer_printed :

@@ -2,6 +2,7 @@
 ghost use Rattle.std.specs.Prelude.{◌≡◌, ℕ, ◌<◌, ◌≤◌, true, List, ◌++◌, length, drop, is_some, slice_index};
 ghost use Rattle.rules.specs.Rules.{Expr, Game};
 ghost use Rattle.wire.specs.Exprs.{expr_bytes, expr_fits};
+ghost use Rattle.wire.specs.Kinds.{kind_letters};
 ghost use Rattle.wire.specs.Games.{game_bytes, fits_bytes, parse_game};
 ghost use Rattle.printing.specs.Games.{printed, printed_size, printed_into, ExactSize, PrintedIsText, PrintedReadsBack, PrintedFits};
 ghost use Rattle.printing.specs.Puts.{Wrote};
@@ -30,6 +31,13 @@ fn first_number(bytes: &[u8]) -> (u8, &[u8])
     }
 }
 
+// How a kind of expression is written. Apart from where it is put, so that what is said of the letters is proved of them alone.
+fn letters_of(kind: ExprKind) -> &'static [u8]
+    ensures { result.now ≡ kind_letters kind }
+{
+    kind.word()
+}
+
 // The expression that bytes begin with, without its parts: how many parts it has, and the bytes from them on.
 fn put_head<'g>(writer: &mut Writer<'_>, game: &'g [u8]) -> (usize, &'g [u8])
     ensures text { (e : Expr) (rest : List ℕ) → game.now ≡ expr_bytes e ++ rest → expr_fits e ≡ true → Headed writer.old writer.new e result.0 result.1.now rest }
@@ -47,7 +55,7 @@ fn put_head<'g>(writer: &mut Writer<'_>, game: &'g [u8]) -> (usize, &'g [u8])
         }
         _ => {
             writer.word(b" ");
-            writer.word(kind.word());
+            writer.word(letters_of(kind));
             (kind.arity(), rest)
         }
     }

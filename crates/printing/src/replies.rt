@@ -2,13 +2,13 @@
 ghost use Rattle.std.specs.Prelude.{◌≡◌};
 ghost use Rattle.rules.specs.Calls.{shown};
 ghost use Rattle.answers.specs.Answers.{parse_answer};
-ghost use Rattle.answers.specs.Reading.{numbers_in, moves_in, answer_of};
+ghost use Rattle.answers.specs.Parts.{numbers_in, moves_in, parts_answer};
 ghost use Rattle.printing.specs.Answers.{end_text, move_text, moves_text, answer_text, answer_size, answer_into, AnswerTextFits};
 ghost use Rattle.printing.specs.Games.{numbers_text};
 ghost use Rattle.printing.specs.Puts.{Wrote};
 
 use super::writer::Writer;
-use answers::{Reply, read_answer, read_move};
+use answers::{Parts, read_move, read_parts};
 use rules::Move;
 
 fn put_numbers(writer: &mut Writer<'_>, numbers: &[[u8; 4]])
@@ -70,25 +70,25 @@ fn put_shown(writer: &mut Writer<'_>, cells: &[[u8; 4]], turn: u32, end: u32, cl
 }
 
 // Any answer.
-fn put_reply(writer: &mut Writer<'_>, reply: Reply<'_>)
-    ensures { Wrote writer.old (answer_text (answer_of reply.entry)) writer.new }
+fn put_reply(writer: &mut Writer<'_>, reply: Parts<'_>)
+    ensures { Wrote writer.old (answer_text (parts_answer reply.entry)) writer.new }
 {
     match reply {
-        Reply::Refused(refusal) => {
+        Parts::Refused(refusal) => {
             writer.word(b"refused ");
             writer.decimal(refusal.number);
             writer.word(b" at ");
             writer.decimal(refusal.place);
         }
-        Reply::Number(n) => writer.decimal(n),
-        Reply::Shown {
+        Parts::Number(n) => writer.decimal(n),
+        Parts::Shown {
             cells,
             turn,
             end,
             clocks,
         } => put_shown(writer, cells, turn, end, clocks),
-        Reply::Listed(moves) => put_moves(writer, moves),
-        Reply::Forced(n) => writer.decimal(n),
+        Parts::Listed(moves) => put_moves(writer, moves),
+        Parts::Forced(n) => writer.decimal(n),
     }
 }
 
@@ -98,7 +98,7 @@ pub fn print_answer(answer: &[u8], out: &mut [u8]) -> Option<usize>
     ensures size { result ≡ answer_size (parse_answer answer.now) }
     ensures text { out.new ≡ answer_into (parse_answer answer.now) out.old }
 {
-    let reply = read_answer(answer)?;
+    let reply = read_parts(answer)?;
     let mut writer = Writer { out, at: 0 };
     put_reply(&mut writer, reply);
     Some(writer.at)

@@ -36,7 +36,7 @@ fn read_letters(letters: &[u8]) -> Line<CallBytes>
 
 // What a line asks, which may still have its LF or CR LF at the end.
 pub fn read_line(line: &[u8]) -> Line<CallBytes>
-    ensures { Asks line.now result }
+    ensures means { Asks line.now result }
 {
     let letters = text::letters(line);
     if text::is_passed_over(letters) {

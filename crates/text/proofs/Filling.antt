@@ -1,7 +1,6 @@
 -- The loop over the pairs: what was said so far, and what is left gives the answer.
 use Rattle.std.proofs.Common.{◌≡◌, ℕ, zero, suc, ◌+◌, ◌<◌, ◌≤◌, List, [], ◌∷◌, ◌++◌, length, get_or, take, drop, set, Some, None, Ok, Err, Option, Result, sym, refl, ap, ◌∙◌, subst, arith}
 use Rattle.std.proofs.lemmas.List.{append_assoc, append-nil, at_drop_more, at_drop_all, length_push, take_all, take-append-le, take_more_set}
-use Rattle.std.specs.Option.{ok_or}
 use Rattle.text.specs.Reader.{and_then}
 use Rattle.text.specs.Raw.{Keeps}
 use Rattle.text.specs.RawReader.{step_of, Small, after, pushed, pairs_at, pairs_from, Filled}
@@ -147,15 +146,6 @@ unfolding pairs_at
 end_whole xs from room kept Gap count k i now e l = end_said xs from room kept Gap count k i now refl l
 end_whole xs from room kept Digit count k i now e l = end_said xs from room kept Digit count k i now refl l
 end_whole xs from room kept (Second h) count k i now e l = absurd (e h refl)
-
--- what the code knows of the step
-pub no_step : (s : Option Step) (e i : ℕ) → Err e ≡ ok_or s i → (s ≡ None) × (e ≡ i)
-no_step None e i q = (refl, cc)
-no_step (Some x) e i q = cc
-
-pub a_step : (s : Option Step) (x : Step) (i : ℕ) → Ok x ≡ ok_or s i → s ≡ Some x
-a_step None x i q = cc
-a_step (Some y) x i q = cc
 
 -- what is said of what is left, said of the line
 pub on_line :

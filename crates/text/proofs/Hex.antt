@@ -1,16 +1,8 @@
 -- Hexadecimal digits, and what a byte is after what was read so far.
-use Rattle.std.proofs.Common.{◌≡◌, ℕ, ◌<◌, true, Option, Some, None, sym, ◌∙◌, arith}
+use Rattle.std.proofs.Common.{◌≡◌, ℕ, true, Some, None, sym, ◌∙◌, arith}
 use Rattle.std.proofs.lemmas.Bool.Decides.{nat_tests}
-use Rattle.std.specs.Char.{digit_value}
-use Rattle.std.specs.Option.{SomeIff}
 use Rattle.text.specs.Grammar.{blank}
 use Rattle.text.specs.Raw.{hex_value}
-
--- as the library reads them
-pub hex_of : (b : ℕ) (r : Option ℕ) → SomeIff r (digit_value b < 16) (digit_value b) → r ≡ hex_value b
-unfolding hex_value
-hex_of b None h = grind (arith, nat_tests)
-hex_of b (Some d) h = grind (arith, nat_tests)
 
 -- white space is no digit
 pub blank_not_hex : (b : ℕ) → blank b ≡ true → hex_value b ≡ None

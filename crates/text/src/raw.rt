@@ -42,12 +42,17 @@ enum Step {
     Pair(u8),
 }
 
+#[tactic(auto, unfolding(crate::specs::Raw::hex_value))]
 fn hex_value(b: u8) -> Option<u8>
     ensures value { result ≡ hex_value b }
     ensures small { IfSome result (λ h. h < 16) }
 {
-    let digit = char::from(b).to_digit(16)?;
-    Some(digit as u8)
+    match b {
+        b'0'..=b'9' => Some(b - b'0'),
+        b'a'..=b'f' => Some(b - b'a' + 10),
+        b'A'..=b'F' => Some(b - b'A' + 10),
+        _ => None,
+    }
 }
 
 // What a byte is, if it can come here.
@@ -72,7 +77,9 @@ fn fill(mut cursor: Cursor, bytes: &mut [u8]) -> Result<usize, usize>
     let mut awaits = Awaits::Gap;
     let mut count: usize = 0;
     for b in cursor.rest() {
-        let step = next_step(awaits, *b).ok_or(cursor.at)?;
+        let Some(step) = next_step(awaits, *b) else {
+            return Err(cursor.at);
+        };
         match step {
             Step::Blank => awaits = Awaits::Digit,
             Step::First(high) => awaits = Awaits::Second(high),

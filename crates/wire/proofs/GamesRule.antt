@@ -12,7 +12,7 @@ use Rattle.wire.specs.Excess.{bound_excess, shallow_rules}
 use Rattle.wire.specs.Games.{read_number, effects_of, read_rule, total_effects}
 use Rattle.wire.specs.GamesWalk.{as_read, exprs_parts, within_levels, behind, rule_bound, one_total}
 use Rattle.wire.proofs.FieldLists as FieldLists
-use Rattle.wire.proofs.ExprsBack.{sized}
+use Rattle.wire.proofs.ExprsBack.{not_got, same_got, sized}
 use Rattle.wire.proofs.GamesHead.{none_read, was_read}
 
 -- the two bytes at i
@@ -89,6 +89,15 @@ word_short bs h = number_short 2 bs 0 (omega arith)
 
 pub word_read : (bs : List ℕ) (n : ℕ) → n ≡ get_or bs 0 0 + 256 * get_or bs 1 0 → 2 ≤ length bs → got n (drop 2 bs) ≡ read_number 2 bs
 word_read bs n is h = ap (λ v. got v (drop 2 bs)) (is ∙ sym (FieldLists.word_is bs 0)) ∙ sym (number_at 2 bs 0 (omega arith))
+
+-- a number of two bytes that was read at the front, and the second one
+pub number_was : (bs r : List ℕ) (a : ℕ) → got a r ≡ read_number 2 bs → (a ≡ word_at bs 0) × (r ≡ drop 2 bs)
+number_was bs r a h =
+    ⊎_elim (λ lt. absurd (not_got a r (sym (h ∙ word_short bs lt))))
+    (λ ge. same_got a (word_at bs 0) r (drop 2 bs) (h ∙ number_at 2 bs 0 (omega arith))) (cases_lt (length bs) 2)
+
+pub second_was : (bs r₁ r₂ : List ℕ) (a b : ℕ) → got a r₁ ≡ read_number 2 bs → got b r₂ ≡ read_number 2 r₁ → b ≡ word_at bs 2
+second_was bs r₁ r₂ a b h k = (number_was r₁ r₂ b k).0 ∙ ap (λ r. word_at r 0) (number_was bs r₁ a h).1
 
 pub byte_read : (x : ℕ) (bs : List ℕ) → read_number 1 (x ∷ bs) ≡ got x bs
 byte_read x bs = number_at 1 (x ∷ bs) 0 (omega arith) ∙ ap (λ n. got n bs) (byte_is (x ∷ bs) 0 (omega arith))

@@ -51,7 +51,8 @@ pub fn put_bytes(bytes: &mut [u8], at: usize, new: &[u8])
 pub fn put_field(bytes: &mut [u8], at: usize, n: usize)
     ensures { bytes.new ≡ written at (number_bytes 4 n) bytes.old }
 {
-    put_bytes(bytes, at, &n.to_le_bytes()[..4]);
+    let [a, b, c, d, ..] = n.to_le_bytes();
+    put_bytes(bytes, at, &[a, b, c, d]);
 }
 
 // Writes numbers one after the other, four bytes each, from a place on, if there is room for all of them; else nothing changes.

@@ -112,3 +112,14 @@ impl ExprKind {
         }
     }
 }
+
+// How many parts an expression of the kind with this number, from 1 on, has.
+pub fn arity_of(kind: u8) -> usize
+    ensures known { 1 ≤ kind → kind ≤ 12 → result ≡ (kind_after (kind - 1)).arity }
+    ensures few { result ≤ 3 }
+{
+    match ExprKind::try_from(kind) {
+        Ok(kind) => kind.arity(),
+        Err(UnknownKind) => 3,
+    }
+}

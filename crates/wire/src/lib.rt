@@ -16,5 +16,5 @@ pub use fields::{
     field_at, put, put_bytes, put_field, put_fields, two_bytes, write_kind_and_fields,
 };
 pub use games::{GameSize, check_game, game_reads_back, game_writes_back, good_games_fit};
-pub use kinds::{ExprKind, UnknownKind};
+pub use kinds::{ExprKind, UnknownKind, arity_of};
 pub use walks::MOST_LEVELS;

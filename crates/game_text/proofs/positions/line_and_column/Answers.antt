@@ -1,4 +1,4 @@
-use Rattle.std.proofs.Common.{◌≡◌, ◌+◌, not, eqb, take, reverse, ap, ◌∙◌, rules, tests}
+use Rattle.std.proofs.Common.{◌≡◌, ◌+◌, not, eqb, take, reverse, ap, ◌∙◌, arith, rules, tests}
 use Rattle.std.proofs.lemmas.Iterator.{YieldsList-from_slice}
 use Rattle.std.proofs.lemmas.Iterator.Adapters.{YieldsList-from_rev_slice}
 use Rattle.std.proofs.lemmas.Iterator.Consumers.{YieldsList-from_filter, count_from_yields_List}
@@ -24,4 +24,5 @@ returns c =
     (YieldsList-from_take_while _ (λ b. not (eqb b 10)) (YieldsList-from_rev_slice bs cc) c.take_while.ensures.closure c.take_while.ensures.done (λ x b q k. search (rules, tests)))
     ∙ length-prefix_len (λ b. not (eqb b 10)) (reverse bs)
     in
-    (λ j. (1 + line j, 1 + column j)) ∙ position_counted bs ∙ ap (λ xs. moved_by xs 1 1) front
+    let told = position_counted bs ∙ ap (λ xs. moved_by xs 1 1) front in
+    grind (arith, line, column, told)

@@ -28,7 +28,7 @@ returns-in-Num c = record {
 pub returns-in_default-kind : goal.returns-in_default-kind
 returns-in_default-kind c =
     let some = not_num c.in-Ok.kind c.in_default-kind.not-Num in
-    let wrote = join c.word.ensures (rw c.word-in_default-kind.ensures at c.word-in_default-kind-2.ensures) in
+    let wrote = join c.word.ensures (rw c.letters_of.ensures at c.word-in_default-kind.ensures) in
     record {
       text =
           λ e rest stands fits.

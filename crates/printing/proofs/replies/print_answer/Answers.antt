@@ -2,7 +2,7 @@ use Rattle.std.proofs.Common.{ℕ, List, refl, sym, ap, ◌∙◌, arith, rules}
 use Rattle.rules.specs.Calls.{Answer}
 use Rattle.wire.proofs.GamesCheck.{below_from}
 use Rattle.answers.specs.Answers.{parse_answer}
-use Rattle.answers.specs.Reading.{answer_of}
+use Rattle.answers.specs.Parts.{parts_answer}
 use Rattle.answers.proofs.AnswerBytes.{writes_back}
 use Rattle.printing.specs.Answers.{answer_size, answer_into}
 use Rattle.printing.proofs.AnswerSizes.{text_bounded}
@@ -18,7 +18,7 @@ returns-in_err-reply c = record {
 pub returns : goal.returns
 returns c =
     let bs : List ℕ = c.args.answer.now in
-    let a : Answer = answer_of c.in_ok-reply.reply in
+    let a : Answer = parts_answer c.in_ok-reply.reply in
     let back = writes_back bs a (below_from bs (λ i. (c.type_inv.answer i).fits)) (sym c.in_ok-reply.ensures) in
     let h = answer_printed (parse_answer bs) a c.in_ok-reply.ensures refl (omega arith) (text_bounded a back.1) c.put_reply.ensures in
     let text = h.1 in

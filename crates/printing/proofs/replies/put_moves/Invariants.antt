@@ -1,5 +1,5 @@
 use Rattle.std.proofs.Common.{take}
-use Rattle.answers.specs.Reading.{moves_in}
+use Rattle.answers.specs.Parts.{moves_in}
 use Rattle.printing.specs.Answers.{later_moves}
 use Rattle.printing.specs.Puts.{Wrote}
 use Rattle.printing.proofs.replies.put_moves.Given as goal

@@ -1,5 +1,5 @@
 use Rattle.std.proofs.Common.{take}
-use Rattle.answers.specs.Reading.{numbers_in}
+use Rattle.answers.specs.Parts.{numbers_in}
 use Rattle.printing.specs.Games.{numbers_text}
 use Rattle.printing.specs.Puts.{Wrote}
 use Rattle.printing.proofs.replies.put_numbers.Given as goal

@@ -1,5 +1,5 @@
-use Rattle.answers.specs.declared.Reply.TheVariants.{Refused, Number, Shown, Listed, Forced}
-use Rattle.answers.specs.Reading.{moves_in}
+use Rattle.answers.specs.declared.Parts.TheVariants.{Refused, Number, Shown, Listed, Forced}
+use Rattle.answers.specs.Parts.{moves_in}
 use Rattle.printing.proofs.AnswerLines.{refused_put, number_put, listed_put, reply_put}
 use Rattle.printing.proofs.replies.put_reply.Goals as goal
 

@@ -1,6 +1,6 @@
 use Rattle.std.proofs.Common.{length, sym}
 use Rattle.std.proofs.lemmas.Bool.{eqb-true, eqb-false}
-use Rattle.answers.specs.Reading.{numbers_in}
+use Rattle.answers.specs.Parts.{numbers_in}
 use Rattle.printing.proofs.AnswerLines.{shown_put, no_clocks, some_clocks}
 use Rattle.printing.proofs.replies.put_shown.Goals as goal
 

@@ -2,7 +2,7 @@ use Rattle.std.proofs.Common.{◌≡◌, ◌+◌, ◌*◌, Bool, not, ◌||◌, 
 use Rattle.std.proofs.lemmas.Grind.{common_steps}
 use Rattle.wire.specs.Exprs.{got, read_exprs}
 use Rattle.wire.specs.GamesWalk.{found, as_read, behind, rule_bound, one_total}
-use Rattle.wire.proofs.GamesRule.{no_first, no_second, no_guard, no_count, no_effects, rule_found}
+use Rattle.wire.proofs.GamesRule.{no_first, no_second, no_guard, no_count, no_effects, second_was, rule_found}
 use Rattle.wire.proofs.walks.walk_rule.Goals as goal
 use Rattle.wire.proofs.walks.walk_rule.Goals.{then-is_deep, else-is_deep}
 
@@ -46,12 +46,14 @@ returns-clause-read c =
     let g = c.in_ok-guard_parts.guard_parts in
     let x = c.in_ok-effect_parts.effect_parts in
     let count = c.in_ok-count.ensures.cases.0 ∙ ap (λ x. x ∷ r₄) (sym c.from-values.ensures) in
+    let w = second_was c.args.bytes.now c.in_ok-first.rest.now c.in_ok-second.guard.now c.in_ok-first.first c.in_ok-second.second c.in_ok-first.ensures.read c.in_ok-second.ensures.read in
+    let bound : c.large_bound.result ≡ rule_bound c.args.rule c.in_ok-first.first c.in_ok-second.second = grind (arith, common_steps, w) in
     let deep : Bool = not (is_some (behind 33 (read_exprs 1 c.in_ok-second.guard.now))) || not (is_some (behind 33 (read_exprs (2 * n) r₄))) in
     let is : c.if-is_deep.totals ≡ deep =
     elim c.if-is_deep.branch [ then-is_deep w ↦ grind (arith, common_steps) | else-is_deep w ↦ grind (arith, common_steps) ] in
     let effects : c.from.result ≡ n = omega (arith, c.from.ensures, c.from-values.ensures) in
     let more : c.from-2.result ≡ n = omega (arith, c.from-2.ensures, c.from-values.ensures) in
-    (λ i. got (record { effects = effects i; moves = a i * b i; parts = 1 + g + more i + x; bound = (c.large_bound.ensures ∙ (λ j. rule_bound c.args.rule (a j) (b j))) i; deep = is i })
+    (λ i. got (record { effects = effects i; moves = a i * b i; parts = 1 + g + more i + x; bound = bound i; deep = is i })
     c.in_ok-effect_parts.rest.now)
     ∙ rule_found c.args.bytes.now c.in_ok-first.rest.now c.in_ok-first.first c.in_ok-first.ensures.read c.in_ok-second.guard.now
     c.in_ok-second.second c.in_ok-second.ensures.read c.in_ok-guard_parts.rest.now g c.in_ok-guard_parts.ensures.read r₄ n count
